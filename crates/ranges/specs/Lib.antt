@@ -1,0 +1,4 @@
+pub mod Refusals
+pub mod Spaces
+pub mod Below
+pub mod Weights
