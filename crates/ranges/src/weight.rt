@@ -4,6 +4,9 @@ use crate::number::PointNumber;
 use crate::number::RangeNumber;
 use crate::space::Space;
 
+// The most that a total of weights may be: 2^49.
+pub const MOST_WEIGHT: u64 = 562949953421312;
+
 // The weight of a point, 0 where there is none.
 pub fn weight_at(weights: &[u64], p: PointNumber) -> u64
     ensures { λ r. ⌜ r ≡ weightAt (now (weights .entry)) (p .0) ⌝ }
