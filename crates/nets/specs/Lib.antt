@@ -1,2 +1,3 @@
 pub mod Finders
 pub mod Verifiers
+pub mod Sweeps

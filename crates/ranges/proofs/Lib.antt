@@ -1,3 +1,5 @@
 pub mod Sums
 pub mod Searches
 pub mod Hits
+pub mod Marks
+pub mod Least

@@ -1,6 +1,7 @@
 -- Sums, counts and searches over the numbers below n.
 use mathlib.Core.Bool.{Bool, true, false, cond, _||_}
 use Prim.Native.Nat.{ℕ, zero, suc, _+_}
+use lib.Dec.{ltb}
 use Rattle.std.specs.declared.option.Option.{Option}
 use Rattle.std.specs.declared.option.Option.the-variants.{Some, None}
 
@@ -26,3 +27,13 @@ orElse (Some j) o = Some j
 abbrev pub leastBelow : (ℕ → Bool) → ℕ → Option ℕ
 leastBelow t zero = None
 leastBelow t (suc n) = orElse (leastBelow t n) (cond (t n) (Some n) None)
+
+-- the lower in w of two numbers, the earlier among equals
+abbrev pub lowerOf : (ℕ → ℕ) → Option ℕ → ℕ → Option ℕ
+lowerOf w None n = Some n
+lowerOf w (Some b) n = cond (ltb (w n) (w b)) (Some n) (Some b)
+
+-- of the numbers below n that pass the test, the one with the least w, the lowest among equals
+abbrev pub leastBy : (ℕ → Bool) → (ℕ → ℕ) → ℕ → Option ℕ
+leastBy t w zero = None
+leastBy t w (suc n) = cond (t n) (lowerOf w (leastBy t w n) n) (leastBy t w n)

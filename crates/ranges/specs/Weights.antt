@@ -68,3 +68,7 @@ capped x = min x 18446744073709551615
 -- the list of f 0, f 1, .. below n
 abbrev pub tabulated : {A : Type 0} → (ℕ → A) → ℕ → List A
 tabulated f n = map f (counting 0 n)
+
+-- marks from a test: 1 where it passes, else 0
+abbrev pub marksOf : (ℕ → Bool) → ℕ → List ℕ
+marksOf t n = tabulated (λ p. cond (t p) 1 0) n
