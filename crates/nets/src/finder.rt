@@ -1,6 +1,7 @@
 ghost use mathlib.Core.Path.{_≡_};
 ghost use lib.ListN.{length};
 ghost use Rattle.ranges.specs.Refusals.{verdictOf};
+ghost use Rattle.ranges.specs.Spaces.{Within};
 ghost use Rattle.nets.specs.Finders.{FinderMeaning, findCheck, FoundMarks, foundScratch, FinderSound};
 use ranges::refusal::Refusal;
 use ranges::space::Space;
@@ -43,7 +44,8 @@ pub fn check_find<S: Space>(
     scratch: usize,
     need: usize,
 ) -> Result<(), Refusal>
-    ensures { λ r. ⌜ r ≡ findCheck (S·Space .meaning (now (s .entry))) k (now (weights .entry)) marks scratch need ⌝ }
+    ensures check { λ r. ⌜ r ≡ findCheck (S·Space .meaning (now (s .entry))) k (now (weights .entry)) marks scratch need ⌝ }
+    ensures within { λ _. ⌜ Within (S·Space .meaning (now (s .entry))) ⌝ }
 {
     let n = s.points();
     if weights.len() != n as usize || marks != n as usize {

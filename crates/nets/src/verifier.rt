@@ -1,6 +1,7 @@
 ghost use mathlib.Core.Path.{_≡_};
 ghost use lib.ListN.{length};
 ghost use Rattle.ranges.specs.Refusals.{verdictOf};
+ghost use Rattle.ranges.specs.Spaces.{Within};
 ghost use Rattle.nets.specs.Verifiers.{VerifierMeaning, judgeCheck, Picked, VerifierSound, rangeOf, lowestMissed, lowestVerifier};
 use ranges::hit::is_hit;
 use ranges::number::RangeNumber;
@@ -22,7 +23,8 @@ pub trait Verifier<S: Space> {
 
 // The checks of every verifier, in number order.
 pub fn check_judge<S: Space>(s: &S, marks: usize, weights: &[u64]) -> Result<(), Refusal>
-    ensures { λ r. ⌜ r ≡ judgeCheck (S·Space .meaning (now (s .entry))) marks (now (weights .entry)) ⌝ }
+    ensures check { λ r. ⌜ r ≡ judgeCheck (S·Space .meaning (now (s .entry))) marks (now (weights .entry)) ⌝ }
+    ensures within { λ _. ⌜ Within (S·Space .meaning (now (s .entry))) ⌝ }
 {
     let n = s.points() as usize;
     if weights.len() != n || marks != n {

@@ -5,16 +5,17 @@ use crate::number::PointNumber;
 use crate::number::RangeNumber;
 
 // A space: its points, its ranges, and which range holds which point.
+// Both counts promise what every space keeps: its limits, and that nothing beyond a count is held.
 pub trait Space {
     ghost meaning: { Self → RangeSpace };
 
-    law within: { (s : Self) → Within (meaning s) };
-
     fn points(&self) -> u16
-        ensures { λ r. ⌜ r ≡ meaning (now (self .entry)) .points ⌝ };
+        ensures value { λ r. ⌜ r ≡ meaning (now (self .entry)) .points ⌝ }
+        ensures within { λ _. ⌜ Within (meaning (now (self .entry))) ⌝ };
 
     fn ranges(&self) -> u16
-        ensures { λ r. ⌜ r ≡ meaning (now (self .entry)) .ranges ⌝ };
+        ensures value { λ r. ⌜ r ≡ meaning (now (self .entry)) .ranges ⌝ }
+        ensures within { λ _. ⌜ Within (meaning (now (self .entry))) ⌝ };
 
     fn holds(&self, j: RangeNumber, p: PointNumber) -> bool
         ensures { λ r. ⌜ r ≡ meaning (now (self .entry)) .holds (j .0) (p .0) ⌝ };

@@ -1,0 +1,3 @@
+// Guesses at how few points are enough: the limit of a guess, and the book of the guesses.
+pub mod book;
+pub mod limit;
