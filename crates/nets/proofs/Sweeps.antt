@@ -14,7 +14,7 @@ use Rattle.std.proofs.shelf.Tests.{cases-bool, cases-lt, ltb-true, ltb-false, a
 use Rattle.ranges.specs.Below.{sumBelow, countBelow, anyBelow}
 use Rattle.ranges.specs.Spaces.{RangeSpace, Within, Ordered}
 use Rattle.ranges.specs.Weights.{weightAt, total, share, rangeWeight, outweighs, heavy, marked, chosen, Hits, hitsAt, marksOf}
-use Rattle.ranges.proofs.Sums.{sum-suc, sum-more, sum-fewer}
+use Rattle.ranges.proofs.Sums.{sum-suc, sum-more, sum-fewer, count-yes, count-no}
 use Rattle.ranges.proofs.Searches.{any-absent}
 use Rattle.ranges.proofs.Hits.{hit-gives}
 use Rattle.ranges.proofs.Marks.{marks-long, marks-bits, marks-marked, marks-chosen}
@@ -66,13 +66,13 @@ module _ (k : ℕ) (ws : List ℕ) where
       let now = mul-add (2 * k) (carried k ws i) (weightAt ws i) in
       elim (cases-bool (full k ws i)) [
         | inl e ↦ (
-            let count : countBelow (full k ws) (suc i) ≡ countBelow (full k ws) i + 1 = sum-suc (λ p. cond (full k ws p) 1 0) i ∙ ap (λ b. countBelow (full k ws) i + cond b 1 0) e in
+            let count = count-yes (full k ws) i e in
             let zero-carry = ap (λ x. 2 * k * x) (marked-carry i e) in
             let over = ltb-true (total ws) (2 * k * (carried k ws i + weightAt ws i)) e in
             let times = ap (λ x. x * (total ws + 1)) count in
             omega arith)
         | inr e ↦ (
-            let count : countBelow (full k ws) (suc i) ≡ countBelow (full k ws) i + 0 = sum-suc (λ p. cond (full k ws p) 1 0) i ∙ ap (λ b. countBelow (full k ws) i + cond b 1 0) e in
+            let count = count-no (full k ws) i e in
             let on = ap (λ x. 2 * k * x) (unmarked-carry i e) in
             let times = ap (λ x. x * (total ws + 1)) count in
             omega arith)

@@ -6,7 +6,8 @@ use mathlib.Core.Logic.{inl, inr}
 use native.Mathlib.Nat.{mul-add, eq-or-lt-of-le}
 use native.Mathlib.Numerals.{add-one}
 use native.Mathlib.Omega.{arith}
-use Rattle.std.proofs.shelf.Tests.{cond-both}
+use lib.Dec.{ltb}
+use Rattle.std.proofs.shelf.Tests.{cond-both, cases-bool, lt-ltb, le-ltb}
 use Rattle.ranges.specs.Below.{sumBelow, countBelow}
 
 pub sum-none : (f : ℕ → ℕ) → sumBelow f 0 ≡ 0
@@ -60,3 +61,33 @@ count-le t zero = omega (arith, sum-none (λ i. cond (t i) 1 0))
 count-le t (suc n) =
     let one : cond (t n) 1 0 ≤ 1 = cond-both (t n) 1 0 (λ x. x ≤ 1) (λ _. omega arith) (λ _. omega arith) in
     omega (arith, count-le t n, sum-suc (λ i. cond (t i) 1 0) n)
+
+-- the count with a number that passes, and with one that does not
+pub count-yes : (t : ℕ → Bool) (n : ℕ) → t n ≡ true → countBelow t (suc n) ≡ countBelow t n + 1
+count-yes t n e = sum-suc (λ i. cond (t i) 1 0) n ∙ ap (λ b. countBelow t n + cond b 1 0) e
+
+pub count-no : (t : ℕ → Bool) (n : ℕ) → t n ≡ false → countBelow t (suc n) ≡ countBelow t n
+count-no t n e = omega (arith, sum-suc (λ i. cond (t i) 1 0) n ∙ ap (λ b. countBelow t n + cond b 1 0) e)
+
+-- the test passes below c and nowhere else
+pub count-front : (t : ℕ → Bool) (n c : ℕ) → c ≤ n → ((i : ℕ) → i < c → t i ≡ true) → ((i : ℕ) → c ≤ i → i < n → t i ≡ false) → countBelow t n ≡ c
+count-front t zero c few front rest = omega arith
+count-front t (suc n) c few front rest =
+    elim (eq-or-lt-of-le few) [
+      | inl e ↦ omega (arith, count-yes t n (front n (omega arith)), count-front t n n (omega arith) (λ i l. front i (omega arith)) (λ i l m. absurd (omega arith)))
+      | inr l ↦ omega (arith, count-no t n (rest n (omega arith) (omega arith)), count-front t n c (omega arith) front (λ i from below. rest i from (omega arith)))
+    ]
+
+-- a test that passes at every number before one where it passes holds just below its count
+pub front-count : (t : ℕ → Bool) (n : ℕ) → ((i k : ℕ) → i ≤ k → k < n → t k ≡ true → t i ≡ true) → (p : ℕ) → p < n → t p ≡ ltb p (countBelow t n)
+front-count t zero closed p l = absurd (omega arith)
+front-count t (suc n) closed p l =
+    elim (cases-bool (t n)) [
+      | inl e ↦ (
+          let all = count-front t (suc n) (suc n) (omega arith) (λ i m. closed i n (omega arith) (omega arith) e) (λ i from m. absurd (omega arith)) in
+          closed p n (omega arith) (omega arith) e ∙ sym (ap (ltb p) all ∙ lt-ltb p (suc n) l))
+      | inr e ↦ elim (eq-or-lt-of-le l) [
+        | inl at ↦ (let is : p ≡ n = omega arith in rw is (e ∙ sym (ap (ltb n) (count-no t n e) ∙ le-ltb n _ (count-le t n))))
+        | inr below ↦ front-count t n (λ i k le m. closed i k le (omega arith)) p (omega arith) ∙ ap (ltb p) (sym (count-no t n e))
+      ]
+    ]

@@ -14,7 +14,7 @@ use Rattle.ranges.specs.declared.refusal.Refusal.{Refusal}
 use Rattle.ranges.specs.declared.refusal.Refusal.the-variants.{CountAboveLimit, CoordinateBeyondLimits, Reversed}
 use Rattle.ranges.specs.Refusals.{unless}
 use Rattle.ranges.specs.Spaces.{RangeSpace, emptySpace}
-use Rattle.shapes.specs.Coordinates.{beyondLimits, between, anyOf}
+use Rattle.shapes.specs.Coordinates.{beyondLimits, between, anyOf, listSpace}
 use Rattle.shapes.specs.declared.box_range.BoxPoint.{BoxPoint}
 use Rattle.shapes.specs.declared.box_range.BoxRange.{BoxRange}
 
@@ -46,11 +46,7 @@ noBox = record { x0 = pos 0; y0 = pos 0; x1 = pos 0; y1 = pos 0 }
 
 -- the space of two lists
 abbrev pub boxSpace : List BoxPoint → List BoxRange → RangeSpace
-boxSpace ps bs = record {
-  points = length ps;
-  ranges = length bs;
-  holds = λ j p. ltb j (length bs) && (ltb p (length ps) && boxHolds (getD bs j noBox) (getD ps p noPoint));
-}
+boxSpace ps bs = listSpace (length ps) (length bs) (λ j p. boxHolds (getD bs j noBox) (getD ps p noPoint))
 
 -- refused lists mean the space without points and ranges
 abbrev pub boxMeaning : List BoxPoint → List BoxRange → RangeSpace

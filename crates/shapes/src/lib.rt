@@ -3,3 +3,5 @@ pub mod box_range;
 pub mod boxes;
 pub mod coordinate;
 pub mod fault;
+pub mod strip_range;
+pub mod strips;
