@@ -1,3 +1,4 @@
 pub mod Finders
 pub mod Verifiers
 pub mod Sweeps
+pub mod Weighed

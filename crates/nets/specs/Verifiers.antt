@@ -14,8 +14,8 @@ use Rattle.ranges.specs.declared.refusal.Refusal.{Refusal}
 use Rattle.ranges.specs.declared.refusal.Refusal.the-variants.{WrongLength, WrongTotal}
 use Rattle.ranges.specs.Refusals.{unless, verdictOf}
 use Rattle.ranges.specs.Spaces.{RangeSpace, Within}
-use Rattle.ranges.specs.Below.{leastBelow}
-use Rattle.ranges.specs.Weights.{total, marked, missed, Hits, HitsAll}
+use Rattle.ranges.specs.Below.{leastBelow, leastBy}
+use Rattle.ranges.specs.Weights.{total, rangeWeight, marked, missed, Hits, HitsAll}
 
 -- what an answer says: none, every range is hit; a range, it exists and is not hit
 abbrev pub Judged : RangeSpace → List ℕ → Option ℕ → Type 0
@@ -53,3 +53,11 @@ lowestMissed S ms = leastBelow (missed S (marked ms)) (S .ranges)
 -- lowest: the missed range with the lowest number
 abbrev pub lowestVerifier : VerifierMeaning
 lowestVerifier = record { picks = λ S ms ws o. o ≡ lowestMissed S ms }
+
+-- the missed range of least weight, the lowest number among equals
+abbrev pub lightestMissed : RangeSpace → List ℕ → List ℕ → Option ℕ
+lightestMissed S ms ws = leastBy (missed S (marked ms)) (rangeWeight S ws) (S .ranges)
+
+-- lightest: the missed range of least weight
+abbrev pub lightestVerifier : VerifierMeaning
+lightestVerifier = record { picks = λ S ms ws o. o ≡ lightestMissed S ms ws }
