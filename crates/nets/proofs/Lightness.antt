@@ -39,9 +39,9 @@ module _ (t : ℕ → Bool) (w : ℕ → ℕ) (j : ℕ) where
   lighter-lower None = refl
   lighter-lower (Some b) = by-test (ltb (w j) (w b))
     where
-    by-test : (x : Bool) → Some (cond x (weighed w j) (weighed w b)) ≡ weighedIf w (cond x (Some j) (Some b))
-    by-test true = refl
-    by-test false = refl
+      by-test : (x : Bool) → Some (cond x (weighed w j) (weighed w b)) ≡ weighedIf w (cond x (Some j) (Some b))
+      by-test true = refl
+      by-test false = refl
 
   pub best-taken : (best : Option Weighed) (next : Weighed) → best ≡ weighedIf w (leastBy t w j) → next ≡ weighed w j → t j ≡ true → Some (lighterOf best next) ≡ weighedIf w (leastBy t w (j + 1))
   best-taken best next before is e =

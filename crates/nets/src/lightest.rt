@@ -26,12 +26,7 @@ pub struct Weighed {
 pub impl<S: Space> Verifier<S> for Lightest as LightestVerifier {
     ghost promise = { λ _. lightestVerifier };
 
-    fn judge(
-        &self,
-        s: &S,
-        marks: &[u8],
-        weights: &[u64],
-    ) -> Result<Option<RangeNumber>, Refusal> {
+    fn judge(&self, s: &S, marks: &[u8], weights: &[u64]) -> Result<Option<RangeNumber>, Refusal> {
         check_judge(s, marks.len(), weights)?;
         Ok(lightest_missed(s, marks, weights))
     }
@@ -61,13 +56,7 @@ fn lighter(best: Option<Weighed>, next: Weighed) -> Weighed
     ensures { λ r. ⌜ r ≡ lighterOf best next ⌝ }
 {
     match best {
-        Some(b) => {
-            if next.weight < b.weight {
-                next
-            } else {
-                b
-            }
-        }
+        Some(b) => { if next.weight < b.weight { next } else { b } }
         None => next,
     }
 }

@@ -1,0 +1,147 @@
+// One job from its lists to verified points, and a sheet of boxes; every value printed comes from a call.
+use nets::finder::Finder;
+use nets::sweep::Sweep;
+use nets::sweep::SweepFinder;
+use nets::verifier::Lowest;
+use nets::verifier::LowestVerifier;
+use nets::verifier::Verifier;
+use ranges::hit::is_marked;
+use ranges::number::PointNumber;
+use ranges::number::RangeNumber;
+use ranges::refusal::Refusal;
+use ranges::refusal::answer_number;
+use ranges::space::Space;
+use shapes::box_range::BoxPoint;
+use shapes::box_range::BoxRange;
+use shapes::boxes::Boxes;
+use shapes::boxes::BoxesSpace;
+use shapes::boxes::check_boxes;
+use shapes::strip_range::StripPoint;
+use shapes::strip_range::StripRange;
+use shapes::strips::Strips;
+use shapes::strips::StripsOrder;
+use shapes::strips::StripsSpace;
+use shapes::strips::check_strips;
+use std::error::AnyError;
+
+const WEB_POINTS: [StripPoint; 4] = [
+    StripPoint { x: 0 },
+    StripPoint { x: 10 },
+    StripPoint { x: 20 },
+    StripPoint { x: 30 },
+];
+
+const WEB_STRIPS: [StripRange; 2] = [StripRange { a: 0, b: 10 }, StripRange { a: 20, b: 30 }];
+
+const SHEET_POINTS: [BoxPoint; 4] = [
+    BoxPoint { x: 10, y: 10 },
+    BoxPoint { x: 20, y: 30 },
+    BoxPoint { x: 40, y: 40 },
+    BoxPoint { x: 60, y: 15 },
+];
+
+const SHEET_BOXES: [BoxRange; 3] = [
+    BoxRange {
+        x0: 10,
+        y0: 10,
+        x1: 20,
+        y1: 20,
+    },
+    BoxRange {
+        x0: 15,
+        y0: 25,
+        x1: 45,
+        y1: 45,
+    },
+    BoxRange {
+        x0: 50,
+        y0: 0,
+        x1: 70,
+        y1: 15,
+    },
+];
+
+fn main(rt: LibcRuntime) -> Result<(), AnyError> {
+    rt.report(run(&rt))
+}
+
+fn run(rt: &LibcRuntime) -> Result<(), AnyError> {
+    web_job(rt)?;
+    box_sheet(rt)
+}
+
+// The strips of a web: guess 1 misses a range, guess 2 hits them all.
+fn web_job(rt: &LibcRuntime) -> Result<(), AnyError> {
+    let checked = answer_number(&check_strips(&WEB_POINTS, &WEB_STRIPS));
+    println!(rt, "strips: check {checked}")?;
+    let space = Strips::new(&WEB_POINTS, &WEB_STRIPS);
+    show_counts(rt, &space)?;
+    let mut marks = [0u8; 4];
+    try_guess(rt, &space, 1, &mut marks)?;
+    try_guess(rt, &space, 2, &mut marks)
+}
+
+// Boxes: what a box holds, and what the lowest verifier says of some marks.
+fn box_sheet(rt: &LibcRuntime) -> Result<(), AnyError> {
+    let checked = answer_number(&check_boxes(&SHEET_POINTS, &SHEET_BOXES));
+    println!(rt, "boxes: check {checked}")?;
+    let space = Boxes::new(&SHEET_POINTS, &SHEET_BOXES);
+    show_counts(rt, &space)?;
+    let corner = space.holds(RangeNumber(0), PointNumber(0));
+    println!(rt, "box 0 holds point 0: {corner}")?;
+    show_verdict(rt, &space, &[0, 0, 1, 0])?;
+    show_verdict(rt, &space, &[1, 1, 0, 0])?;
+    show_verdict(rt, &space, &[1, 1, 0, 1])
+}
+
+fn show_counts<S: Space>(rt: &LibcRuntime, space: &S) -> Result<(), AnyError> {
+    let n = space.points();
+    let m = space.ranges();
+    println!(rt, "points {n} ranges {m}")?;
+    Ok(())
+}
+
+// Sweeps for one guess under weights 1, and has the net judged.
+fn try_guess(
+    rt: &LibcRuntime,
+    space: &Strips<'_>,
+    k: u16,
+    marks: &mut [u8; 4],
+) -> Result<(), AnyError> {
+    match Sweep.find(space, k, &[1; 4], marks, &mut []) {
+        Ok(count) => println!(rt, "guess {k}: the sweep marks {count}")?,
+        Err(e) => return Err(refused(e)),
+    }
+    show_marks(rt, marks)?;
+    show_verdict(rt, space, marks)
+}
+
+fn show_marks(rt: &LibcRuntime, marks: &[u8; 4]) -> Result<(), AnyError> {
+    for p in 0..4 {
+        if is_marked(marks, PointNumber(p)) {
+            println!(rt, "at {p}")?;
+        }
+    }
+    Ok(())
+}
+
+fn show_verdict<S: Space>(rt: &LibcRuntime, space: &S, marks: &[u8; 4]) -> Result<(), AnyError> {
+    match Lowest.judge(space, marks, &[1; 4]) {
+        Ok(Some(j)) => {
+            let j = j.0;
+            println!(rt, "range {j} is missed")?;
+        }
+        Ok(None) => println!(rt, "every range is hit")?,
+        Err(e) => return Err(refused(e)),
+    }
+    Ok(())
+}
+
+fn refused(e: Refusal) -> AnyError {
+    match e.number() {
+        8 => "a buffer has the wrong length".into(),
+        11 => "the guess is out of range".into(),
+        16 => "the total is too large".into(),
+        _ => "a call was refused".into(),
+    }
+}
