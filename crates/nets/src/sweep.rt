@@ -12,6 +12,9 @@ use ranges::space::OrderedSpace;
 use ranges::weight::is_heavy;
 use ranges::weight::total_weight;
 
+// The sweep needs no scratch.
+const NO_SCRATCH: usize = 0;
+
 // The finder for ordered spaces: one pass over the points in number order.
 #[derive(Clone, Copy)]
 pub struct Sweep;
@@ -24,7 +27,7 @@ pub impl<S: OrderedSpace> Finder<S> for Sweep as SweepFinder {
     }
 
     fn need(&self, _n: u16, _m: u16) -> usize {
-        0
+        NO_SCRATCH
     }
 
     fn find(
@@ -35,7 +38,7 @@ pub impl<S: OrderedSpace> Finder<S> for Sweep as SweepFinder {
         marks: &mut [u8],
         scratch: &mut [u8],
     ) -> Result<u16, Refusal> {
-        check_find(s, k, weights, marks.len(), scratch.len(), 0)?;
+        check_find(s, k, weights, marks.len(), scratch.len(), NO_SCRATCH)?;
         // one question brings the order of all ranges
         let _first = s.first(RangeNumber(0));
         Ok(sweep_marks(k, weights, total_weight(weights), marks))

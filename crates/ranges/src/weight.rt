@@ -30,13 +30,13 @@ pub fn total_weight(weights: &[u64]) -> u64
 pub fn range_weight<S: Space>(s: &S, weights: &[u64], j: RangeNumber) -> u64
     ensures { λ r. ⌜ r ≡ capped (rangeWeight (S·Space .meaning (now (s .entry))) (now (weights .entry)) (j .0)) ⌝ }
 {
-    let mut sum: u64 = 0;
+    let mut held: u64 = 0;
     for p in 0..s.points() {
         if s.holds(j, PointNumber(p)) {
-            sum = sum.saturating_add(weight_at(weights, PointNumber(p)));
+            held = held.saturating_add(weight_at(weights, PointNumber(p)));
         }
     }
-    sum
+    held
 }
 
 // Whether a range of this weight is heavy for guess k.

@@ -11,7 +11,7 @@ pub trait Fault<T> {
 }
 
 // Whether some item of the list has the fault.
-pub fn any_faulty<T, F: Fault<T>>(fault: &F, items: &[T]) -> bool
+pub(crate) fn any_faulty<T, F: Fault<T>>(fault: &F, items: &[T]) -> bool
     ensures { λ r. ⌜ r ≡ anyOf (F·Fault .faulty (now (fault .entry))) (now (items .entry)) ⌝ }
 {
     for item in items {
