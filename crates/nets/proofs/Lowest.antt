@@ -7,12 +7,12 @@ use Rattle.std.specs.declared.option.Option.{Option}
 use Rattle.std.specs.declared.option.Option.the-variants.{Some, None}
 use Rattle.std.proofs.shelf.Tests.{not-false}
 use Rattle.ranges.specs.Spaces.{RangeSpace, Within}
-use Rattle.ranges.specs.Weights.{marked, missed, hit}
+use Rattle.ranges.specs.Weights.{marked, missed, hit, lowestMissed}
 use Rattle.ranges.proofs.Searches.{least-some, least-absent}
 use Rattle.ranges.proofs.Hits.{hit-gives, missed-not}
-use Rattle.nets.specs.Verifiers.{Judged, lowestMissed}
+use Rattle.nets.specs.Verifiers.{Judged}
 
-pub lowest-judged : (S : RangeSpace) (ms ws : List ℕ) (o : Option ℕ) → Within S → o ≡ lowestMissed S ms → Judged S ms o
+pub lowest-judged : (S : RangeSpace) (ms ws : List ℕ) (o : Option ℕ) → Within S → o ≡ lowestMissed S (marked ms) → Judged S ms o
 lowest-judged S ms ws None within e = λ j l.
     hit-gives S within (marked ms) j (not-false (hit S (marked ms) j) (least-absent (missed S (marked ms)) (S .ranges) (sym e) j l))
 lowest-judged S ms ws (Some i) within e =

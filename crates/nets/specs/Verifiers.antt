@@ -14,8 +14,8 @@ use Rattle.ranges.specs.declared.refusal.Refusal.{Refusal}
 use Rattle.ranges.specs.declared.refusal.Refusal.the-variants.{WrongLength, WrongTotal}
 use Rattle.ranges.specs.Refusals.{unless, verdictOf}
 use Rattle.ranges.specs.Spaces.{RangeSpace, Within}
-use Rattle.ranges.specs.Below.{leastBelow, leastBy}
-use Rattle.ranges.specs.Weights.{total, rangeWeight, marked, missed, Hits, HitsAll}
+use Rattle.ranges.specs.Below.{leastBy}
+use Rattle.ranges.specs.Weights.{total, rangeWeight, marked, missed, lowestMissed, rangeOf, Hits, HitsAll}
 
 -- what an answer says: none, every range is hit; a range, it exists and is not hit
 abbrev pub Judged : RangeSpace → List ℕ → Option ℕ → Type 0
@@ -37,22 +37,14 @@ judgeCheck S marks ws =
     unless (not (eqb (length ws) (S .points)) || not (eqb marks (S .points))) WrongLength
     (unless (ltb (2 ^ 49) (total ws)) WrongTotal (Ok tt))
 
-abbrev pub rangeOf : Option RangeNumber → Option ℕ
-rangeOf None = None
-rangeOf (Some j) = Some (j .0)
-
 -- an accepted answer is one of the verifier's
 abbrev pub Picked : VerifierMeaning → RangeSpace → List ℕ → List ℕ → Result (Option RangeNumber) Refusal → Type 0
 Picked V S ms ws (Ok o) = V .picks S ms ws (rangeOf o)
 Picked V S ms ws (Err e) = Unit {0}
 
--- the missed range with the lowest number
-abbrev pub lowestMissed : RangeSpace → List ℕ → Option ℕ
-lowestMissed S ms = leastBelow (missed S (marked ms)) (S .ranges)
-
 -- lowest: the missed range with the lowest number
 abbrev pub lowestVerifier : VerifierMeaning
-lowestVerifier = record { picks = λ S ms ws o. o ≡ lowestMissed S ms }
+lowestVerifier = record { picks = λ S ms ws o. o ≡ lowestMissed S (marked ms) }
 
 -- the missed range of least weight, the lowest number among equals
 abbrev pub lightestMissed : RangeSpace → List ℕ → List ℕ → Option ℕ

@@ -1,11 +1,13 @@
 ghost use mathlib.Core.Path.{_≡_};
 ghost use Prim.Native.Nat.{_^_, _≤_};
 ghost use lib.ListN.{length};
-ghost use Rattle.ranges.specs.Weights.{total};
-ghost use Rattle.nets.specs.Verifiers.{rangeOf, lightestMissed, lightestVerifier};
+ghost use Rattle.ranges.specs.Weights.{total, rangeOf};
+ghost use Rattle.nets.specs.Verifiers.{lightestMissed, lightestVerifier};
 ghost use Rattle.nets.specs.Weighed.{lighterOf};
 use crate::verifier::Verifier;
 use crate::verifier::check_judge;
+use ranges::hit::Marked;
+use ranges::hit::MarkedSet;
 use ranges::hit::is_hit;
 use ranges::number::RangeNumber;
 use ranges::refusal::Refusal;
@@ -40,7 +42,7 @@ fn lightest_missed<S: Space>(s: &S, marks: &[u8], weights: &[u64]) -> Option<Ran
     let mut best: Option<Weighed> = None;
     for j in 0..s.ranges() {
         let range = RangeNumber(j);
-        if !is_hit(s, marks, range) {
+        if !is_hit(s, &Marked(marks), range) {
             let weight = range_weight(s, weights, range);
             best = Some(lighter(best, Weighed { range, weight }));
         }

@@ -2,8 +2,10 @@ ghost use mathlib.Core.Path.{_≡_};
 ghost use lib.ListN.{length};
 ghost use Rattle.ranges.specs.Refusals.{verdictOf};
 ghost use Rattle.ranges.specs.Spaces.{Within};
-ghost use Rattle.nets.specs.Verifiers.{VerifierMeaning, judgeCheck, Picked, VerifierSound, rangeOf, lowestMissed, lowestVerifier};
-use ranges::hit::is_hit;
+ghost use Rattle.nets.specs.Verifiers.{VerifierMeaning, judgeCheck, Picked, VerifierSound, lowestVerifier};
+use ranges::hit::Marked;
+use ranges::hit::MarkedSet;
+use ranges::hit::lowest_missed;
 use ranges::number::RangeNumber;
 use ranges::refusal::Refusal;
 use ranges::space::Space;
@@ -45,17 +47,6 @@ pub impl<S: Space> Verifier<S> for Lowest as LowestVerifier {
 
     fn judge(&self, s: &S, marks: &[u8], weights: &[u64]) -> Result<Option<RangeNumber>, Refusal> {
         check_judge(s, marks.len(), weights)?;
-        Ok(lowest_missed(s, marks))
+        Ok(lowest_missed(s, &Marked(marks)))
     }
-}
-
-fn lowest_missed<S: Space>(s: &S, marks: &[u8]) -> Option<RangeNumber>
-    ensures { λ r. ⌜ rangeOf r ≡ lowestMissed (S·Space .meaning (now (s .entry))) (now (marks .entry)) ⌝ }
-{
-    for j in 0..s.ranges() {
-        if !is_hit(s, marks, RangeNumber(j)) {
-            return Some(RangeNumber(j));
-        }
-    }
-    None
 }

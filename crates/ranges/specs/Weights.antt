@@ -6,7 +6,10 @@ use Prim.Native.Nat.{ℕ, min, _+_, _*_, _<_}
 use lib.Dec.{ltb, eqb}
 use lib.ListN.{length, getD}
 use Rattle.std.specs.Iters.{counting}
-use Rattle.ranges.specs.Below.{sumBelow, countBelow, anyBelow}
+use Rattle.std.specs.declared.option.Option.{Option}
+use Rattle.std.specs.declared.option.Option.the-variants.{Some, None}
+use Rattle.ranges.specs.declared.number.RangeNumber.{RangeNumber}
+use Rattle.ranges.specs.Below.{sumBelow, countBelow, anyBelow, leastBelow}
 use Rattle.ranges.specs.Spaces.{RangeSpace}
 
 -- the weight of a point
@@ -60,6 +63,14 @@ hit S P j = anyBelow (hitsAt S P j) (S .points)
 
 abbrev pub missed : RangeSpace → (ℕ → Bool) → ℕ → Bool
 missed S P j = not (hit S P j)
+
+-- the missed range with the lowest number
+abbrev pub lowestMissed : RangeSpace → (ℕ → Bool) → Option ℕ
+lowestMissed S P = leastBelow (missed S P) (S .ranges)
+
+abbrev pub rangeOf : Option RangeNumber → Option ℕ
+rangeOf None = None
+rangeOf (Some j) = Some (j .0)
 
 -- the largest number of 64 bits, where a sum of weights stays
 abbrev pub capped : ℕ → ℕ
