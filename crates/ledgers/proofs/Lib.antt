@@ -1,0 +1,3 @@
+pub mod Doublings
+pub mod Certificates
+pub mod Places

@@ -1,0 +1,2 @@
+// Ledgers of doubled ranges: doubling, and the replay that checks a ledger as a certificate.
+pub mod doubling;
