@@ -84,7 +84,7 @@ module _ (S : RangeSpace) (within : Within S) (P : ℕ → Bool) (hits : HitsAll
       let n = S .points in
       let size = λ (p : ℕ). cond {A = ℕ} (P p) 1 0 in
       let pointwise = sum-le (λ p. 2 ^ q * timesIn S P js p + 2 ^ q * size p) (λ p. cond (P p) (weightAt (doubledBy S (ones n) js) p) 0 + q * 2 ^ q * size p) n
-            (λ p l. heavier (P p) (times S js p) q (weightAt (doubledBy S (ones n) js) p) (weight-after S (ones n) js p ∙ ap (λ x. x * 2 ^ times S js p) (ones-at n p l) ∙ omega arith)) in
+      (λ p l. heavier (P p) (times S js p) q (weightAt (doubledBy S (ones n) js) p) (weight-after S (ones n) js p ∙ ap (λ x. x * 2 ^ times S js p) (ones-at n p l) ∙ omega arith)) in
       let left = sum-add (λ p. 2 ^ q * timesIn S P js p) (λ p. 2 ^ q * size p) n in
       let left-times = sum-mul (2 ^ q) (timesIn S P js) n in
       let left-size = sum-mul (2 ^ q) size n in
@@ -112,16 +112,16 @@ pub full-ledger : (S : RangeSpace) (k : ℕ) (js : List ℕ) → Within S → 0 
 full-ledger S k js within some few full all P hits =
     elim (cases-lt k (countBelow P (S .points))) [ inl more ↦ more | inr small ↦ absurd (too-few small) ]
   where
-  too-few : countBelow P (S .points) ≤ k → ⊥
-  too-few small =
-      let t = doublingsOf (S .points) k in
-      let m = countBelow P (S .points) in
-      let weighs = set-heavy S within P hits js (all-exist S k (ones (S .points)) js all) (doublingsOf (S .points) k) in
-      let light = set-light (S .points) (doubledBy S (ones (S .points)) js) P (doubledBy-long S (ones (S .points)) js ∙ ones-long (S .points)) in
-      let spread-weight = spread (2 ^ t) t m k (setWeight (S .points) (doubledBy S (ones (S .points)) js) P) (doublings-some (S .points) k few) small
-            (subst (λ (x : ℕ). 2 ^ t * (x + m) ≤ setWeight (S .points) (doubledBy S (ones (S .points)) js) P + t * 2 ^ t * m) full weighs) in
-      let grown = grown-all S k (S .points) 0 (ones (S .points)) js (ones-long (S .points)) (grown-none (S .points) k) all in
-      let all-lines : 0 + length js ≡ limitOf (S .points) k = omega (arith, full) in
-      contradiction (S .points) k (total (doubledBy S (ones (S .points)) js)) some few (within .few-points)
+    too-few : countBelow P (S .points) ≤ k → ⊥
+    too-few small =
+        let t = doublingsOf (S .points) k in
+        let m = countBelow P (S .points) in
+        let weighs = set-heavy S within P hits js (all-exist S k (ones (S .points)) js all) (doublingsOf (S .points) k) in
+        let light = set-light (S .points) (doubledBy S (ones (S .points)) js) P (doubledBy-long S (ones (S .points)) js ∙ ones-long (S .points)) in
+        let spread-weight = spread (2 ^ t) t m k (setWeight (S .points) (doubledBy S (ones (S .points)) js) P) (doublings-some (S .points) k few) small
+        (subst (λ (x : ℕ). 2 ^ t * (x + m) ≤ setWeight (S .points) (doubledBy S (ones (S .points)) js) P + t * 2 ^ t * m) full weighs) in
+        let grown = grown-all S k (S .points) 0 (ones (S .points)) js (ones-long (S .points)) (grown-none (S .points) k) all in
+        let all-lines : 0 + length js ≡ limitOf (S .points) k = omega (arith, full) in
+        contradiction (S .points) k (total (doubledBy S (ones (S .points)) js)) some few (within .few-points)
         (subst (λ (r : ℕ). Grown (S .points) k r (total (doubledBy S (ones (S .points)) js))) all-lines grown)
         (omega arith)

@@ -28,10 +28,10 @@ module _ (S : RangeSpace) (j : ℕ) (ws : List ℕ) where
   pub doubled-weight : (p : ℕ) → weightAt (doubled S j ws) p ≡ doubledAt S j ws p
   doubled-weight p =
       elim (cases-lt p (length ws)) [
-        inl l ↦ getD-map-counting (doubledAt S j ws) 0 (length ws) p p 0 l (omega arith)
-      | inr past ↦
-          getD-past (doubled S j ws) p 0 (omega (arith, doubled-long))
-          ∙ sym (nothing-doubled (S .holds j p) (weightAt ws p) (getD-past ws p 0 past))
+        | inl l ↦ getD-map-counting (doubledAt S j ws) 0 (length ws) p p 0 l (omega arith)
+        | inr past ↦
+            getD-past (doubled S j ws) p 0 (omega (arith, doubled-long))
+            ∙ sym (nothing-doubled (S .holds j p) (weightAt ws p) (getD-past ws p 0 past))
       ]
 
   grown : (b : Bool) (x : ℕ) → cond b (2 * x) x ≡ x + cond b x 0

@@ -1,3 +1,4 @@
 pub mod Doublings
 pub mod Certificates
 pub mod Places
+pub mod Replays

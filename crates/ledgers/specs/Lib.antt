@@ -1,2 +1,2 @@
 pub mod Doublings
-
+pub mod Replays

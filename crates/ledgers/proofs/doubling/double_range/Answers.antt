@@ -9,12 +9,12 @@ use Rattle.ledgers.proofs.doubling.double_range.Needs.{then-holds, else-holds}
 pub loop-p-again : need.loop-p-again
 loop-p-again g c =
     elim (c .if-holds .came) [
-      then-holds w ↦ held-next (g .S·Space .meaning (c .args .s .now)) (c .args .j .0) (c .args .weights .now) (c .loop-p .weights) (c .loop-p .p) (c .loop-p .inv) (c .if-holds .weights) (sym (w .if-holds .ensures tt)) (w .weights-is ∙ w .double-weight .ensures)
-    | else-holds w ↦ free-next (g .S·Space .meaning (c .args .s .now)) (c .args .j .0) (c .args .weights .now) (c .loop-p .weights) (c .loop-p .p) (c .loop-p .inv) (c .if-holds .weights) (sym (w .if-holds .ensures tt)) (w .weights-is)
+      | then-holds w ↦ held-next (g .S·Space .meaning (c .args .s .now)) (c .args .j .0) (c .args .weights .now) (c .loop-p .weights) (c .loop-p .p) (c .loop-p .inv) (c .if-holds .weights) (sym (w .if-holds .ensures tt)) (w .weights-is ∙ w .double-weight .ensures)
+      | else-holds w ↦ free-next (g .S·Space .meaning (c .args .s .now)) (c .args .j .0) (c .args .weights .now) (c .loop-p .weights) (c .loop-p .p) (c .loop-p .inv) (c .if-holds .weights) (sym (w .if-holds .ensures tt)) (w .weights-is)
     ]
 
 pub returns : need.returns
 returns g c =
     let end : c .loop-p .p ≡ g .S·Space .meaning (c .args .s .now) .points = omega arith in
     all-done (g .S·Space .meaning (c .args .s .now)) (c .points-p-end .ensures .within) (c .args .j .0) (c .args .weights .now) (c .loop-p .weights) (c .loop-p .kept .weights)
-      (subst (λ (p : ℕ). Done (cappedAt (g .S·Space .meaning (c .args .s .now)) (c .args .j .0) (c .args .weights .now)) (c .args .weights .now) p (c .loop-p .weights)) end (c .loop-p .inv))
+    (subst (λ (p : ℕ). Done (cappedAt (g .S·Space .meaning (c .args .s .now)) (c .args .j .0) (c .args .weights .now)) (c .args .weights .now) p (c .loop-p .weights)) end (c .loop-p .inv))
