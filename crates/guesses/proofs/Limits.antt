@@ -106,4 +106,4 @@ limit-le n k above within few =
     rw is (within-three n k s low rate)
 
 pub limit-law : (n k : ℕ) → Limit-law n k
-limit-law n k above within few = (doublings-least n k above few, doublings-few n k above few, limit-le n k above within few)
+limit-law n k above within few = (doublings-least n k above few, doublings-few n k above few, limit-le n k above within few, limit-pos n k above within)

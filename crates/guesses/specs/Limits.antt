@@ -31,11 +31,11 @@ pub record Least-doublings (n k t : ℕ) : Type 0 where
 abbrev pub limitIf : ℕ → ℕ → Option ℕ
 limitIf n k = cond (eqb k 0 || (ltb n k || ltb 4096 n)) None (Some (limitOf n k))
 
--- the limit counts the least doublings, which are few, and stays within three for each point
+-- the limit counts the least doublings, which are few, stays within three for each point, and is not 0
 abbrev pub Limit-law : ℕ → ℕ → Type 0
 Limit-law n k =
     0 < k → k ≤ n → n ≤ 4096
-    → Least-doublings n k (doublingsOf n k) × (doublingsOf n k ≤ 49) × (limitOf n k ≤ 3 * n)
+    → Least-doublings n k (doublingsOf n k) × (doublingsOf n k ≤ 49) × (limitOf n k ≤ 3 * n) × (0 < limitOf n k)
 
 pub record WorkedLimits : Type 0 where
   pub one : limitOf 1 1 ≡ 1

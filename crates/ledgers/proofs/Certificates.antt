@@ -17,8 +17,8 @@ use Rattle.guesses.specs.Limits.{doublingsOf, limitOf}
 use Rattle.guesses.proofs.Growth.{contradiction}
 use Rattle.guesses.proofs.Limits.{doublings-some}
 use Rattle.guesses.proofs.Potential.{two-pow}
-use Rattle.ledgers.specs.Doublings.{doubledAt, doubled, doubledBy, ones, good, AllGood, NeedsMore}
-use Rattle.ledgers.proofs.Doublings.{Grown, doubled-long, doubled-weight, good-light, grown-all, grown-none, ones-long, ones-at}
+use Rattle.ledgers.specs.Doublings.{doubledAt, doubled, doubledBy, ones, good, AllGood, NeedsMore, Grown}
+use Rattle.ledgers.proofs.Doublings.{doubled-long, doubled-weight, good-light, grown-all, grown-none, ones-long, ones-at}
 
 -- how many of the listed ranges hold point p
 abbrev times : RangeSpace → List ℕ → ℕ → ℕ

@@ -15,7 +15,7 @@ use Rattle.ranges.specs.Spaces.{RangeSpace}
 use Rattle.ranges.specs.Below.{sumBelow}
 use Rattle.ranges.specs.Weights.{weightAt, total, share, rangeWeight, heavy}
 use Rattle.ranges.proofs.Sums.{sum-add, sum-same, count-front}
-use Rattle.ledgers.specs.Doublings.{doubledAt, doubled, doubledBy, ones, good, AllGood}
+use Rattle.ledgers.specs.Doublings.{doubledAt, doubled, doubledBy, ones, good, AllGood, Grown}
 
 module _ (S : RangeSpace) (j : ℕ) (ws : List ℕ) where
   pub doubled-long : length (doubled S j ws) ≡ length ws
@@ -51,10 +51,6 @@ pub good-light : (S : RangeSpace) (k : ℕ) (ws : List ℕ) (j : ℕ) → good S
 good-light S k ws j e =
     let both = and-parts _ _ e in
     (ltb-true _ _ (both .0), ltb-false _ _ (not-true _ (both .1)))
-
--- after r doublings of light ranges, the total is at most n·((2k+1)/2k)^r
-abbrev pub Grown : ℕ → ℕ → ℕ → ℕ → Type 0
-Grown n k r W = W * (2 * k) ^ r ≤ n * (2 * k + 1) ^ r
 
 grown-times : (W w a A n B : ℕ) → a * w ≤ W → W * A ≤ n * B → (W + w) * (A * a) ≤ n * (B * (a + 1))
 grown-times W w a A n B light before =

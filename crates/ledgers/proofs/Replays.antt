@@ -18,9 +18,9 @@ use Rattle.guesses.specs.Limits.{limitOf}
 use Rattle.guesses.proofs.Growth.{total-bound}
 use Rattle.ledgers.specs.declared.replay.Replayed.{Replayed}
 use Rattle.ledgers.specs.declared.replay.Replayed.the-variants.{Accepted, BadLine}
-use Rattle.ledgers.specs.Doublings.{doubledAt, doubled, cappedAt, cappedDoubled, good, AllGood, ones, NeedsMore}
+use Rattle.ledgers.specs.Doublings.{doubledAt, doubled, cappedAt, cappedDoubled, good, AllGood, ones, NeedsMore, Grown}
 use Rattle.ledgers.specs.Replays.{numbers, replayed, replayedWeights}
-use Rattle.ledgers.proofs.Doublings.{Grown, total-doubled, good-light, grown-once}
+use Rattle.ledgers.proofs.Doublings.{total-doubled, good-light, grown-once}
 use Rattle.ledgers.proofs.Certificates.{full-ledger}
 
 -- below the largest number nothing is capped

@@ -2,7 +2,7 @@
 use mathlib.Core.Path.{_≡_}
 use mathlib.Core.Bool.{Bool, true, false, cond, not, _&&_}
 use mathlib.Core.List.{List, [], _∷_}
-use Prim.Native.Nat.{ℕ, _+_, _*_, _<_, _≤_}
+use Prim.Native.Nat.{ℕ, _+_, _*_, _^_, _<_, _≤_}
 use lib.Dec.{ltb}
 use lib.ListN.{length, replicate}
 use Rattle.ranges.specs.Spaces.{RangeSpace}
@@ -44,3 +44,7 @@ AllGood S k ws (j ∷ js) = (good S k ws j ≡ true) × AllGood S k (doubled S j
 -- every set of points that hits all ranges has more than k points
 abbrev pub NeedsMore : RangeSpace → ℕ → Type 0
 NeedsMore S k = (P : ℕ → Bool) → HitsAll S P → k < countBelow P (S .points)
+
+-- after r doublings of light ranges, the total W is at most n·((2k+1)/2k)^r
+abbrev pub Grown : ℕ → ℕ → ℕ → ℕ → Type 0
+Grown n k r W = W * (2 * k) ^ r ≤ n * (2 * k + 1) ^ r

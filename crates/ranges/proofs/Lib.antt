@@ -3,3 +3,4 @@ pub mod Searches
 pub mod Hits
 pub mod Marks
 pub mod Least
+pub mod Checks

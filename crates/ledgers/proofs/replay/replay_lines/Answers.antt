@@ -6,9 +6,9 @@ use lib.ListN.{length, drop, getD}
 use Rattle.std.proofs.shelf.Lists.{at-drop-all}
 use Rattle.ranges.specs.Weights.{total}
 use Rattle.ranges.specs.declared.number.RangeNumber.{RangeNumber}
-use Rattle.ledgers.specs.Doublings.{doubled}
+use Rattle.ledgers.specs.Doublings.{doubled, Grown}
 use Rattle.ledgers.specs.Replays.{replayed, replayedWeights, noRange}
-use Rattle.ledgers.proofs.Doublings.{Grown, grown-none, ones-long}
+use Rattle.ledgers.proofs.Doublings.{grown-none, ones-long}
 use Rattle.ledgers.proofs.Replays.{uncapped, grown-small, line-bad, line-good, line-grown, bad-not-accepted, accepted-more}
 use Rattle.ledgers.proofs.replay.replay_lines.Needs as need
 

@@ -2,7 +2,7 @@ use mathlib.Core.Path.{_≡_}
 use lib.ListN.{length, drop}
 use Rattle.ranges.specs.Weights.{total}
 use Rattle.ledgers.specs.Replays.{replayed, replayedWeights}
-use Rattle.ledgers.proofs.Doublings.{Grown}
+use Rattle.ledgers.specs.Doublings.{Grown}
 use Rattle.ledgers.proofs.replay.replay_lines.Given as given
 
 -- what is left of the ledger gives the answer, and the total has grown as light ranges let it

@@ -1,0 +1,2 @@
+// The greedy finder, for every space.
+pub mod greedy;

@@ -1,0 +1,3 @@
+// Runs: guesses opened, played round by round, ruled out or hit, with the laws that no list of calls breaks.
+pub mod run;
+pub mod state;

@@ -1,0 +1,199 @@
+ghost use mathlib.Core.Path.{_≡_};
+ghost use lib.ListN.{length};
+ghost use Rattle.guesses.specs.Books.{bookLines, lineAt};
+ghost use Rattle.ledgers.specs.Doublings.{ones};
+ghost use Rattle.runs.specs.Runs.{SomeGuess, FewGuess, FewPoints, Unfinished, GrownTotal, blankState, beginCheck, begunState, openCheck, openState, giveUpCheck, gaveUpState, closedState, guessOf, roomCheck, orGuess, accepted};
+ghost use Rattle.ranges.specs.Spaces.{Within};
+use crate::state::OpenGuess;
+use crate::state::Phase;
+use crate::state::State;
+use guesses::book::Book;
+use guesses::book::GuessLine;
+use guesses::book::Verdict;
+use guesses::limit::limit;
+use ranges::hit::AllPoints;
+use ranges::hit::AllPointsSet;
+use ranges::hit::lowest_missed;
+use ranges::number::RangeNumber;
+use ranges::refusal::Refusal;
+use ranges::space::Space;
+
+// A run: its plain state, and what it keeps of an open guess whatever its caller does.
+#[derive(Drop)]
+pub struct Run {
+    state: State,
+    ghost someGuess: { SomeGuess state },
+    ghost fewGuess: { FewGuess state },
+    ghost fewPoints: { FewPoints state },
+    ghost unfinished: { Unfinished state },
+    ghost grown: { GrownTotal state },
+}
+
+impl Run {
+    // A blank run.
+    pub fn new() -> Run
+        ensures { λ r. ⌜ r .state ≡ blankState ⌝ }
+    {
+        Run {
+            state: State {
+                phase: Phase::Blank,
+                n: 0,
+                m: 0,
+                floor: 0,
+                book: Book::new(),
+            },
+        }
+    }
+
+    // The certified floor: every set of points that hits all ranges has more; 0 says nothing.
+    pub fn floor(&self) -> u16
+        ensures { λ r. ⌜ r ≡ now (self .entry) .state .floor ⌝ }
+    {
+        self.state.floor
+    }
+
+    // Line i of the book, from 0.
+    pub fn line(&self, i: usize) -> Option<GuessLine>
+        ensures { λ r. ⌜ r ≡ lineAt (bookLines (now (self .entry) .state .book)) i ⌝ }
+    {
+        self.state.book.line(i)
+    }
+
+    pub(crate) fn begin<S: Space>(&mut self, s: &S) -> Result<(), Refusal>
+        ensures answer { λ r. ⌜ r ≡ beginCheck (S·Space .meaning (now (s .entry))) (now (self .entry) .state) ⌝ }
+        ensures state { λ r. ⌜ now (self .exit) .state ≡ accepted r (begunState (S·Space .meaning (now (s .entry)))) (now (self .entry) .state) ⌝ }
+    {
+        let Phase::Blank = self.state.phase else {
+            return Err(Refusal::RunBegun);
+        };
+        if let Some(j) = lowest_missed(s, &AllPoints) {
+            return Err(Refusal::EmptyRange(j));
+        }
+        self.state = State {
+            phase: Phase::Idle,
+            n: s.points(),
+            m: s.ranges(),
+            floor: 0,
+            book: Book::new(),
+        };
+        Ok(())
+    }
+
+    pub(crate) fn open<S: Space>(
+        &mut self,
+        s: &S,
+        k: u16,
+        weights: &mut [u64],
+        ledger: &[RangeNumber],
+    ) -> Result<(), Refusal>
+        ensures answer { λ r. ⌜ r ≡ openCheck (S·Space .meaning (now (s .entry))) (now (self .entry) .state) k (length (now (weights .entry))) (length (now (ledger .entry))) ⌝ }
+        ensures state { λ r. ⌜ now (self .exit) .state ≡ accepted r (openState (now (self .entry) .state) k) (now (self .entry) .state) ⌝ }
+        ensures weights { λ r. ⌜ now (weights .exit) ≡ accepted r (ones (S·Space .meaning (now (s .entry)) .points)) (now (weights .entry)) ⌝ }
+    {
+        check_open(&self.state, s, k, weights.len(), ledger.len())?;
+        weights.fill(1);
+        self.state = opened(&self.state, k);
+        Ok(())
+    }
+
+    pub(crate) fn give_up(&mut self) -> Result<(), Refusal>
+        ensures answer { λ r. ⌜ r ≡ giveUpCheck (now (self .entry) .state) ⌝ }
+        ensures state { λ r. ⌜ now (self .exit) .state ≡ accepted r (gaveUpState (now (self .entry) .state)) (now (self .entry) .state) ⌝ }
+    {
+        let guess = open_guess(&self.state)?;
+        let verdict = Verdict::GivenUp;
+        self.state = closed(&self.state, guess.k, guess.doublings, verdict);
+        Ok(())
+    }
+}
+
+// The checks of open, in number order.
+fn check_open<S: Space>(
+    state: &State,
+    s: &S,
+    k: u16,
+    weights: usize,
+    ledger: usize,
+) -> Result<(), Refusal>
+    ensures check { λ r. ⌜ r ≡ openCheck (S·Space .meaning (now (s .entry))) (now (state .entry)) k weights ledger ⌝ }
+    ensures within { λ _. ⌜ Within (S·Space .meaning (now (s .entry))) ⌝ }
+{
+    let n = s.points();
+    let guessing = match state.phase {
+        Phase::Blank => return Err(Refusal::RunBlank),
+        Phase::Idle => false,
+        Phase::Guessing(_) => true,
+    };
+    if n != state.n || s.ranges() != state.m {
+        return Err(Refusal::OtherSpace);
+    }
+    if weights != n as usize {
+        return Err(Refusal::WrongLength);
+    }
+    if guessing {
+        return Err(Refusal::GuessOpen);
+    }
+    match limit(n, k) {
+        Some(most) => check_room(state, k, most as usize, ledger),
+        None => Err(Refusal::GuessOutOfRange),
+    }
+}
+
+// Whether floor, book and ledger leave room for guess k.
+fn check_room(state: &State, k: u16, most: usize, ledger: usize) -> Result<(), Refusal>
+    ensures { λ r. ⌜ r ≡ roomCheck (now (state .entry)) k most ledger ⌝ }
+{
+    if k <= state.floor {
+        return Err(Refusal::GuessNotAboveFloor);
+    }
+    if state.book.len() >= 24 {
+        return Err(Refusal::BookFull);
+    }
+    if ledger < most {
+        return Err(Refusal::LedgerLength);
+    }
+    Ok(())
+}
+
+// The open guess, or why there is none.
+fn open_guess(state: &State) -> Result<OpenGuess, Refusal>
+    ensures { λ r. ⌜ r ≡ orGuess (giveUpCheck (now (state .entry))) (guessOf (now (state .entry) .phase)) ⌝ }
+{
+    match state.phase {
+        Phase::Blank => Err(Refusal::RunBlank),
+        Phase::Idle => Err(Refusal::NoGuessOpen),
+        Phase::Guessing(guess) => Ok(guess),
+    }
+}
+
+// The state with guess k opened.
+fn opened(state: &State, k: u16) -> State
+    ensures { λ r. ⌜ r ≡ openState (now (state .entry)) k ⌝ }
+{
+    let mut next = *state;
+    let _ = next.book.add(GuessLine {
+        k,
+        doublings: 0,
+        verdict: Verdict::Open,
+    });
+    next.phase = Phase::Guessing(OpenGuess {
+        k,
+        doublings: 0,
+        total: state.n as u64,
+    });
+    next
+}
+
+// The state with the open guess closed by a verdict.
+fn closed(state: &State, k: u16, doublings: u16, verdict: Verdict) -> State
+    ensures { λ r. ⌜ r ≡ closedState (now (state .entry)) k doublings verdict ⌝ }
+{
+    let mut next = *state;
+    let _ = next.book.rewrite_last(GuessLine {
+        k,
+        doublings,
+        verdict,
+    });
+    next.phase = Phase::Idle;
+    next
+}
