@@ -2,7 +2,7 @@
 use mathlib.Core.Path.{_≡_}
 use mathlib.Core.Bool.{Bool, true, false, cond, not, _||_}
 use mathlib.Core.List.{List, _++_}
-use Prim.Native.Nat.{ℕ, _+_, _<_, _≤_}
+use Prim.Native.Nat.{ℕ, _+_, _^_, _<_, _≤_}
 use lib.Dec.{ltb, leb, eqb}
 use lib.ListN.{length, set, drop, replicate}
 use Rattle.std.specs.declared.option.Option.{Option}
@@ -13,8 +13,10 @@ use Rattle.ranges.specs.declared.number.RangeNumber.{RangeNumber}
 use Rattle.ranges.specs.declared.refusal.Refusal.{Refusal}
 use Rattle.ranges.specs.declared.refusal.Refusal.the-variants.{RunBegun, EmptyRange, RunBlank, OtherSpace, WrongLength, GuessOpen, NoGuessOpen, GuessOutOfRange, GuessNotAboveFloor, BookFull, LedgerLength, ShortScratch, WrongTotal}
 use Rattle.ranges.specs.Refusals.{unless}
-use Rattle.ranges.specs.Spaces.{RangeSpace}
-use Rattle.ranges.specs.Weights.{total, rangeWeight, chosen, lowestMissed}
+use Rattle.ranges.specs.Spaces.{RangeSpace, Within}
+use Rattle.ranges.specs.Weights.{total, rangeWeight, chosen, lowestMissed, rangeOf}
+use Rattle.nets.specs.Finders.{FinderMeaning, findCheck}
+use Rattle.nets.specs.Verifiers.{VerifierMeaning}
 use Rattle.guesses.specs.declared.book.Verdict.{Verdict}
 use Rattle.guesses.specs.declared.book.Verdict.the-variants.{Open, Hit, RuledOut, GivenUp}
 use Rattle.guesses.specs.declared.book.GuessLine.{GuessLine}
@@ -113,15 +115,19 @@ openState st k = record {
 }
 
 -- round: the finder's net is judged
-abbrev pub roundCheck : RangeSpace → Desk → ℕ → Result Unit Refusal
-roundCheck S d need =
-    unless (isBlank (d .state .phase)) RunBlank
-    (unless (otherSpace S (d .state)) OtherSpace
-    (unless (not (eqb (length (d .weights)) (S .points)) || not (eqb (length (d .marks)) (S .points))) WrongLength
-    (unless (not (isGuessing (d .state .phase))) NoGuessOpen
-    (unless (ltb (length (d .ledger)) (limitOf (S .points) (guessOf (d .state .phase) .k))) LedgerLength
-    (unless (ltb (length (d .scratch)) need) ShortScratch
-    (unless (not (eqb (total (d .weights)) (guessOf (d .state .phase) .total))) WrongTotal (Ok tt)))))))
+abbrev pub bufferCheck : ℕ → ℕ → ℕ → ℕ → ℕ → ℕ → ℕ → Result Unit Refusal
+bufferCheck n k W ledger scratch need whole =
+    unless (ltb ledger (limitOf n k)) LedgerLength
+    (unless (ltb scratch need) ShortScratch
+    (unless (not (eqb whole W)) WrongTotal (Ok tt)))
+
+abbrev pub roundCheck : RangeSpace → State → List ℕ → ℕ → ℕ → ℕ → ℕ → Result Unit Refusal
+roundCheck S st ws marks ledger scratch need =
+    unless (isBlank (st .phase)) RunBlank
+    (unless (otherSpace S st) OtherSpace
+    (unless (not (eqb (length ws) (S .points)) || not (eqb marks (S .points))) WrongLength
+    (unless (not (isGuessing (st .phase))) NoGuessOpen
+    (bufferCheck (S .points) (guessOf (st .phase) .k) (guessOf (st .phase) .total) ledger scratch need (total ws)))))
 
 -- the doublings that rule a guess out
 abbrev pub rulesOut : ℕ → ℕ → ℕ → Bool
@@ -162,25 +168,27 @@ missState st g w =
 abbrev pub cleared : ℕ → List ℕ → List ℕ
 cleared need scratch = replicate need 0 ++ drop need scratch
 
--- what a round leaves of a guess, by its net and the range missed, if any
-abbrev pub judgedDesk : RangeSpace → ℕ → Desk → OpenGuess → List ℕ → Option ℕ → Desk
-judgedDesk S need d g ms None = record {
-  state = hitState (d .state) g (chosen ms);
-  weights = d .weights;
-  marks = ms;
-  ledger = d .ledger;
-  scratch = cleared need (d .scratch);
-}
-judgedDesk S need d g ms (Some j) = record {
-  state = missState (d .state) g (rangeWeight S (d .weights) j);
-  weights = doubled S j (d .weights);
-  marks = ms;
-  ledger = set (d .ledger) (g .doublings) (record { 0 = j });
-  scratch = cleared need (d .scratch);
-}
+-- what an accepted round leaves, by the number of its net's points and the range missed, if any
+abbrev pub roundState : RangeSpace → State → List ℕ → ℕ → Option ℕ → State
+roundState S st ws points None = hitState st (guessOf (st .phase)) points
+roundState S st ws points (Some j) = missState st (guessOf (st .phase)) (rangeWeight S ws j)
+
+abbrev pub roundWeights : RangeSpace → List ℕ → Option ℕ → List ℕ
+roundWeights S ws None = ws
+roundWeights S ws (Some j) = doubled S j ws
+
+abbrev pub roundLedger : State → List RangeNumber → Option ℕ → List RangeNumber
+roundLedger st ledger None = ledger
+roundLedger st ledger (Some j) = set ledger (guessOf (st .phase) .doublings) (record { 0 = j })
 
 abbrev pub roundDesk : RangeSpace → ℕ → Desk → List ℕ → Option ℕ → Desk
-roundDesk S need d ms o = judgedDesk S need d (guessOf (d .state .phase)) ms o
+roundDesk S need d ms o = record {
+  state = roundState S (d .state) (d .weights) (chosen ms) o;
+  weights = roundWeights S (d .weights) o;
+  marks = ms;
+  ledger = roundLedger (d .state) (d .ledger) o;
+  scratch = cleared need (d .scratch);
+}
 
 -- give up: closes the open guess
 abbrev pub giveUpCheck : State → Result Unit Refusal
@@ -199,3 +207,25 @@ orGuess (Err e) g = Err e
 abbrev pub accepted : {A : Type 0} → Result Unit Refusal → A → A → A
 accepted (Ok u) after before = after
 accepted (Err e) after before = before
+
+-- the same of a round, by its answer
+abbrev pub after : {A : Type 0} → Result (Option RangeNumber) Refusal → (Option ℕ → A) → A → A
+after (Ok o) leaves before = leaves (rangeOf o)
+after (Err e) leaves before = before
+
+-- the net and the answer of an accepted round are the finder's and the verifier's; a refused one leaves the marks
+abbrev pub Played : FinderMeaning → VerifierMeaning → RangeSpace → ℕ → List ℕ → Result (Option RangeNumber) Refusal → List ℕ → List ℕ → Type 0
+Played F V S k ws (Ok o) old ms = F .nets S k ws ms × V .picks S ms ws (rangeOf o)
+Played F V S k ws (Err e) old ms = ms ≡ old
+
+-- a net, its number of points and the verifier's answer
+abbrev pub NetAndVerdict : FinderMeaning → VerifierMeaning → RangeSpace → ℕ → List ℕ → List ℕ → ℕ → Option RangeNumber → Type 0
+NetAndVerdict F V S k ws ms points o = F .nets S k ws ms × (points ≡ chosen ms) × V .picks S ms ws (rangeOf o)
+
+-- what an accepted round's checks and the run's own facts give: the guess, and that the finder accepts
+abbrev pub Ready : RangeSpace → State → List ℕ → ℕ → ℕ → ℕ → ℕ → Result OpenGuess Refusal → Type 0
+Ready S st ws marks ledger scratch need (Ok g) =
+    (findCheck S (g .k) ws marks scratch need ≡ Ok tt) × (isGuessing (st .phase) ≡ true) × (S .points ≡ st .n) × (length ws ≡ S .points) × (total ws ≡ g .total) × (total ws ≤ 2 ^ 49)
+    × (0 < g .k) × (g .k ≤ st .n) × (st .n ≤ 4096) × (g .doublings < limitOf (st .n) (g .k)) × (limitOf (st .n) (g .k) ≤ ledger)
+    × (g ≡ guessOf (st .phase)) × (roundCheck S st ws marks ledger scratch need ≡ Ok tt) × Within S
+Ready S st ws marks ledger scratch need (Err e) = Unit {0}

@@ -1,3 +1,4 @@
 // Runs: guesses opened, played round by round, ruled out or hit, with the laws that no list of calls breaks.
+mod round;
 pub mod run;
 pub mod state;

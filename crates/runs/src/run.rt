@@ -2,8 +2,16 @@ ghost use mathlib.Core.Path.{_≡_};
 ghost use lib.ListN.{length};
 ghost use Rattle.guesses.specs.Books.{bookLines, lineAt};
 ghost use Rattle.ledgers.specs.Doublings.{ones};
-ghost use Rattle.runs.specs.Runs.{SomeGuess, FewGuess, FewPoints, Unfinished, GrownTotal, blankState, beginCheck, begunState, openCheck, openState, giveUpCheck, gaveUpState, closedState, guessOf, roomCheck, orGuess, accepted};
+ghost use Rattle.runs.specs.Runs.{SomeGuess, FewGuess, FewPoints, Unfinished, GrownTotal, blankState, beginCheck, begunState, openCheck, openState, giveUpCheck, gaveUpState, guessOf, roomCheck, orGuess, accepted, after, roundCheck, roundState, roundWeights, roundLedger, cleared, Played, Ready};
+ghost use Rattle.ranges.specs.Refusals.{verdictOf};
+ghost use Rattle.ranges.specs.Weights.{chosen};
 ghost use Rattle.ranges.specs.Spaces.{Within};
+use crate::round::Lengths;
+use crate::round::check_round;
+use crate::round::closed;
+use crate::round::double_missed;
+use crate::round::missed;
+use crate::round::play;
 use crate::state::OpenGuess;
 use crate::state::Phase;
 use crate::state::State;
@@ -11,6 +19,8 @@ use guesses::book::Book;
 use guesses::book::GuessLine;
 use guesses::book::Verdict;
 use guesses::limit::limit;
+use nets::finder::Finder;
+use nets::verifier::Verifier;
 use ranges::hit::AllPoints;
 use ranges::hit::AllPointsSet;
 use ranges::hit::lowest_missed;
@@ -94,6 +104,63 @@ impl Run {
         weights.fill(1);
         self.state = opened(&self.state, k);
         Ok(())
+    }
+
+    // One round; accepted, it answers the range missed, if any.
+    pub(crate) fn play_round<S: Space, F: Finder<S>, V: Verifier<S>>(
+        &mut self,
+        s: &S,
+        f: &F,
+        v: &V,
+        weights: &mut [u64],
+        marks: &mut [u8],
+        ledger: &mut [RangeNumber],
+        scratch: &mut [u8],
+    ) -> Result<Option<RangeNumber>, Refusal>
+        ensures check { λ r. ⌜ verdictOf r ≡ roundCheck (S·Space .meaning (now (s .entry))) (now (self .entry) .state) (now (weights .entry)) (length (now (marks .entry))) (length (now (ledger .entry))) (length (now (scratch .entry))) (F·Finder .promise (now (f .entry)) .need (S·Space .meaning (now (s .entry)) .points) (S·Space .meaning (now (s .entry)) .ranges)) ⌝ }
+        ensures net { λ r. ⌜ Played (F·Finder .promise (now (f .entry))) (V·Verifier .promise (now (v .entry))) (S·Space .meaning (now (s .entry))) (guessOf (now (self .entry) .state .phase) .k) (now (weights .entry)) r (now (marks .entry)) (now (marks .exit)) ⌝ }
+        ensures state { λ r. ⌜ now (self .exit) .state ≡ after r (roundState (S·Space .meaning (now (s .entry))) (now (self .entry) .state) (now (weights .entry)) (chosen (now (marks .exit)))) (now (self .entry) .state) ⌝ }
+        ensures weights { λ r. ⌜ now (weights .exit) ≡ after r (roundWeights (S·Space .meaning (now (s .entry))) (now (weights .entry))) (now (weights .entry)) ⌝ }
+        ensures ledger { λ r. ⌜ now (ledger .exit) ≡ after r (roundLedger (now (self .entry) .state) (now (ledger .entry))) (now (ledger .entry)) ⌝ }
+        ensures scratch { λ r. ⌜ now (scratch .exit) ≡ after r (λ _. cleared (F·Finder .promise (now (f .entry)) .need (S·Space .meaning (now (s .entry)) .points) (S·Space .meaning (now (s .entry)) .ranges)) (now (scratch .entry))) (now (scratch .entry)) ⌝ }
+    {
+        let lengths = Lengths {
+            marks: marks.len(),
+            ledger: ledger.len(),
+            scratch: scratch.len(),
+        };
+        let guess = match self.ready(s, f, weights, lengths) {
+            Ok(guess) => guess,
+            Err(e) => return Err(e),
+        };
+        let (points, judged) = play(s, f, v, guess.k, weights, marks, scratch);
+        match judged {
+            Some(j) => {
+                ledger[guess.doublings as usize] = j;
+                let weight = double_missed(s, weights, j);
+                self.state = missed(&self.state, guess, weight);
+            }
+            None => {
+                let verdict = Verdict::Hit(points);
+                self.state = closed(&self.state, guess.k, guess.doublings, verdict);
+            }
+        }
+        Ok(judged)
+    }
+
+    // The open guess of a round that passes its checks, with what these and the run's own facts give.
+    fn ready<S: Space, F: Finder<S>>(
+        &self,
+        s: &S,
+        f: &F,
+        weights: &[u64],
+        lengths: Lengths,
+    ) -> Result<OpenGuess, Refusal>
+        ensures check { λ r. ⌜ r ≡ orGuess (roundCheck (S·Space .meaning (now (s .entry))) (now (self .entry) .state) (now (weights .entry)) (lengths .marks) (lengths .ledger) (lengths .scratch) (F·Finder .promise (now (f .entry)) .need (S·Space .meaning (now (s .entry)) .points) (S·Space .meaning (now (s .entry)) .ranges))) (guessOf (now (self .entry) .state .phase)) ⌝ }
+        ensures ready { λ r. ⌜ Ready (S·Space .meaning (now (s .entry))) (now (self .entry) .state) (now (weights .entry)) (lengths .marks) (lengths .ledger) (lengths .scratch) (F·Finder .promise (now (f .entry)) .need (S·Space .meaning (now (s .entry)) .points) (S·Space .meaning (now (s .entry)) .ranges)) r ⌝ }
+    {
+        let need = f.need(s.points(), s.ranges());
+        check_round(&self.state, s, weights, lengths, need)
     }
 
     pub(crate) fn give_up(&mut self) -> Result<(), Refusal>
@@ -181,19 +248,5 @@ fn opened(state: &State, k: u16) -> State
         doublings: 0,
         total: state.n as u64,
     });
-    next
-}
-
-// The state with the open guess closed by a verdict.
-fn closed(state: &State, k: u16, doublings: u16, verdict: Verdict) -> State
-    ensures { λ r. ⌜ r ≡ closedState (now (state .entry)) k doublings verdict ⌝ }
-{
-    let mut next = *state;
-    let _ = next.book.rewrite_last(GuessLine {
-        k,
-        doublings,
-        verdict,
-    });
-    next.phase = Phase::Idle;
     next
 }
