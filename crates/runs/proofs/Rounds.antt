@@ -53,16 +53,16 @@ find-ok S k ws marks scratch need long marked-long some few enough small =
 
 -- what a round's checks found
 module _ (S : RangeSpace) (st : State) (ws : List ℕ) (marks ledger scratch need : ℕ) where
-  record Passed : Type 0 where
-    open-guess : isGuessing (st .phase) ≡ true
-    same : S .points ≡ st .n
-    long : length ws ≡ S .points
-    marks-long : marks ≡ S .points
-    lines : limitOf (S .points) (guessOf (st .phase) .k) ≤ ledger
-    enough : need ≤ scratch
-    whole : total ws ≡ guessOf (st .phase) .total
+  pub record Passed : Type 0 where
+    pub open-guess : isGuessing (st .phase) ≡ true
+    pub same : S .points ≡ st .n
+    pub long : length ws ≡ S .points
+    pub marks-long : marks ≡ S .points
+    pub lines : limitOf (S .points) (guessOf (st .phase) .k) ≤ ledger
+    pub enough : need ≤ scratch
+    pub whole : total ws ≡ guessOf (st .phase) .total
 
-  passed : roundCheck S st ws marks ledger scratch need ≡ Ok tt → Passed
+  pub passed : roundCheck S st ws marks ledger scratch need ≡ Ok tt → Passed
   passed e =
       let g = guessOf (st .phase) in
       let last = unless (not (eqb (total ws) (g .total))) WrongTotal (Ok tt) in
