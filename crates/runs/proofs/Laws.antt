@@ -43,7 +43,7 @@ use Rattle.runs.specs.declared.state.Phase.the-variants.{Blank, Idle, Guessing
 use Rattle.runs.specs.Runs.{Desk, isBlank, isGuessing, guessOf, lineOf, blankState, emptyCheck, beginCheck, begunState, otherSpace, openCheck, roomCheck, openState, roundCheck, roundDesk, closedState, missState, rulesOut, cleared, giveUpCheck, gaveUpState}
 use Rattle.runs.proofs.Rounds.{Passed, passed, missed-light}
 use Rattle.runs.proofs.Openings.{open-ready}
-use Rattle.runs.specs.Histories.{Event, begun, opened, judged, gaveUp, refused, Step, begins, opens, judges, gives-up, refuses, History, start, next, guessIn, rounds, pushed, doubledIn, missedNone, hitIn, lastVerdict, lastLine, Fits, RuledRight, HitRight, Lawful}
+use Rattle.runs.specs.Histories.{Event, begun, opened, judged, gaveUp, refused, Step, begins, opens, judges, gives-up, refuses, History, start, next, guessIn, rounds, pushed, doubledIn, missedNone, hitIn, lastVerdict, lastLine, Fits, RuledRight, HitRight, Lawful, Along}
 
 -- a guess whose last round reached the limit was hit, or every round missed a range
 abbrev Ended : RangeSpace → List Event → ℕ → Type 0
@@ -88,16 +88,16 @@ false-true e = absurd (both-ways true (sym e) refl)
 
 started : (S : RangeSpace) (ws ms : List ℕ) (ledger : List RangeNumber) (scratch : List ℕ) → Kept S [] (record { state = blankState; weights = ws; marks = ms; ledger = ledger; scratch = scratch })
 started S ws ms ledger scratch = record {
-    whole = refl;
-    blank = λ _. refl;
-    same = λ e. true-false e;
-    front = refl;
-    guessed = λ k e. no-guess [] k refl e;
-    playing = λ e. false-true e;
-    ended = λ _ k e. no-guess [] k refl e;
-    ruled = tt;
-    floor = λ l. absurd (omega arith)
-  }
+  whole = refl;
+  blank = λ _. refl;
+  same = λ e. true-false e;
+  front = refl;
+  guessed = λ k e. no-guess [] k refl e;
+  playing = λ e. false-true e;
+  ended = λ _ k e. no-guess [] k refl e;
+  ruled = tt;
+  floor = λ l. absurd (omega arith);
+}
 
 guessing-not-blank : (p : Phase) → isGuessing p ≡ true → isBlank p ≡ false
 guessing-not-blank Blank e = false-true e
@@ -121,17 +121,22 @@ module _ (S : RangeSpace) (within : Within S) (es : List Event) (d : Desk) (kept
         playing = λ f. false-true f;
         ended = λ _ k f. no-guess es k none f;
         ruled = tt;
-        floor = λ l. absurd (omega arith)
+        floor = λ l. absurd (omega arith);
       }
 
   -- a refused call changes nothing
   refused-kept : Kept S (refused ∷ es) d
   refused-kept = record {
-      whole = kept .whole; blank = kept .blank; same = kept .same; front = kept .front;
-      guessed = λ k f. (let g = kept .guessed k f in record { some = g .some; few = g .few; all-good = g .all-good; limited = g .limited; line = g .line; told = g .told });
-      playing = λ f. (let p = kept .playing f in record { is = p .is; rounds-are = p .rounds-are; lines-are = p .lines-are; weights-are = p .weights-are; early = p .early });
-      ended = kept .ended; ruled = kept .ruled; floor = kept .floor
-    }
+    whole = kept .whole;
+    blank = kept .blank;
+    same = kept .same;
+    front = kept .front;
+    guessed = λ k f. (let g = kept .guessed k f in record { some = g .some; few = g .few; all-good = g .all-good; limited = g .limited; line = g .line; told = g .told });
+    playing = λ f. (let p = kept .playing f in record { is = p .is; rounds-are = p .rounds-are; lines-are = p .lines-are; weights-are = p .weights-are; early = p .early });
+    ended = kept .ended;
+    ruled = kept .ruled;
+    floor = kept .floor;
+  }
 
   -- open: a new guess, with no round and no line yet
   open-room : (k weights ledger : ℕ) → openCheck S (d .state) k weights ledger ≡ Ok tt → (isBlank (d .state .phase) ≡ false) × (length (bookLines (d .state .book)) < 24)
@@ -167,19 +172,19 @@ module _ (S : RangeSpace) (within : Within S) (es : List Event) (d : Desk) (kept
         same = λ _. n-is;
         front = refl;
         guessed = λ l f.
-          let is : k ≡ l = cc in
-          subst (Guessed S (opened k ∷ es) (bookAdded (d .state .book) line)) is (record {
-            some = ready .0;
-            few = few;
-            all-good = tt;
-            limited = omega arith;
-            line = subst (λ (ls : List GuessLine). 0 < length ls) (sym lines) (omega (arith, length-push (bookLines (d .state .book)) line));
-            told = ap lastLine lines ∙ last-added (bookLines (d .state .book)) line
-          });
+            let is : k ≡ l = cc in
+            subst (Guessed S (opened k ∷ es) (bookAdded (d .state .book) line)) is (record {
+              some = ready .0;
+              few = few;
+              all-good = tt;
+              limited = omega arith;
+              line = subst (λ (ls : List GuessLine). 0 < length ls) (sym lines) (omega (arith, length-push (bookLines (d .state .book)) line));
+              told = ap lastLine lines ∙ last-added (bookLines (d .state .book)) line;
+            });
         playing = λ _. record { is = refl; rounds-are = refl; lines-are = refl; weights-are = refl; early = limit-pos (S .points) k (ready .0) few };
         ended = λ f. true-false f;
         ruled = subst (All (RuledRight S)) (sym lines) (all-push (RuledRight S) (bookLines (d .state .book)) line (kept .ruled) (λ f. (let z : _≡_ {A = ℕ} 0 1 = cc in absurd (omega arith))));
-        floor = kept .floor
+        floor = kept .floor;
       }
 
   -- a guess that is played: its number, and its line rewritten by a verdict
@@ -212,17 +217,20 @@ module _ (S : RangeSpace) (within : Within S) (es : List Event) (d : Desk) (kept
         same = λ _. kept .same (guessing-not-blank (d .state .phase) o);
         front = kept .front;
         guessed = λ k f.
-          let old = kept .guessed k f in
-          let k-is = played k o f in
-          record {
-            some = old .some; few = old .few; all-good = old .all-good; limited = old .limited;
-            line = now-some o (g .doublings) GivenUp;
-            told = now-told o (g .doublings) GivenUp ∙ (λ i. Some (lineOf (k-is i) (sym (p .lines-are) i) GivenUp))
-          };
+            let old = kept .guessed k f in
+            let k-is = played k o f in
+            record {
+              some = old .some;
+              few = old .few;
+              all-good = old .all-good;
+              limited = old .limited;
+              line = now-some o (g .doublings) GivenUp;
+              told = now-told o (g .doublings) GivenUp ∙ (λ i. Some (lineOf (k-is i) (sym (p .lines-are) i) GivenUp));
+            };
         playing = λ f. false-true f;
         ended = λ _ k f full. absurd (omega (arith, p .rounds-are, p .early, ap (limitOf (S .points)) (played k o f), full));
         ruled = now-ruled o (g .doublings) GivenUp (λ f. (let z : _≡_ {A = ℕ} 0 1 = cc in absurd (omega arith)));
-        floor = kept .floor
+        floor = kept .floor;
       }
 
   -- a round that missed nothing
@@ -238,18 +246,20 @@ module _ (S : RangeSpace) (within : Within S) (es : List Event) (d : Desk) (kept
         same = λ _. kept .same (guessing-not-blank (d .state .phase) o);
         front = kept .front;
         guessed = λ k f.
-          let old = kept .guessed k f in
-          let k-is = played k o f in
-          record {
-            some = old .some; few = old .few; all-good = old .all-good;
-            limited = omega (arith, p .rounds-are, p .early, ap (limitOf (S .points)) k-is);
-            line = now-some o (g .doublings) v;
-            told = now-told o (g .doublings) v ∙ (λ i. Some (lineOf (k-is i) (sym (p .lines-are) i) v))
-          };
+            let old = kept .guessed k f in
+            let k-is = played k o f in
+            record {
+              some = old .some;
+              few = old .few;
+              all-good = old .all-good;
+              limited = omega (arith, p .rounds-are, p .early, ap (limitOf (S .points)) k-is);
+              line = now-some o (g .doublings) v;
+              told = now-told o (g .doublings) v ∙ (λ i. Some (lineOf (k-is i) (sym (p .lines-are) i) v));
+            };
         playing = λ f. false-true f;
         ended = λ _ k f full. inl refl;
         ruled = now-ruled o (g .doublings) v (λ f. (let z : _≡_ {A = ℕ} 0 1 = cc in absurd (omega arith)));
-        floor = kept .floor
+        floor = kept .floor;
       }
 
   -- a round that missed range j
@@ -259,12 +269,12 @@ module _ (S : RangeSpace) (within : Within S) (es : List Event) (d : Desk) (kept
     line-good : good S (guessOf (d .state .phase) .k) (d .weights) j ≡ true
     line-good =
         and-from _ _ (lt-ltb j (S .ranges) (answer .0))
-          (ap not (le-ltb (total (d .weights)) _ (missed-light S (guessOf (d .state .phase) .k) (d .weights) ms bound j net (answer .0) (answer .1))))
+        (ap not (le-ltb (total (d .weights)) _ (missed-light S (guessOf (d .state .phase) .k) (d .weights) ms bound j net (answer .0) (answer .1))))
 
     good-now : (k : ℕ) → guessOf (d .state .phase) .k ≡ k → guessIn es ≡ Some k → AllGood S k (ones (S .points)) (doubledIn es ++ j ∷ [])
     good-now k k-is f =
         good-push S k (ones (S .points)) (doubledIn es) j (kept .guessed k f .all-good)
-          ((λ i. good S (sym k-is i) (sym (kept .playing (pass .open-guess) .weights-are) i) j) ∙ line-good)
+        ((λ i. good S (sym k-is i) (sym (kept .playing (pass .open-guess) .weights-are) i) j) ∙ line-good)
 
     long-now : length (doubledIn es ++ j ∷ []) ≡ guessOf (d .state .phase) .doublings + 1
     long-now = length-push (doubledIn es) j ∙ ap (λ x. x + 1) (kept .playing (pass .open-guess) .lines-are)
@@ -293,19 +303,22 @@ module _ (S : RangeSpace) (within : Within S) (es : List Event) (d : Desk) (kept
     -- the desk with the state that the round leaves
     abbrev left : State → Desk
     left x = record {
-        state = x;
-        weights = doubled S j (d .weights);
-        marks = ms;
-        ledger = set (d .ledger) (guessOf (d .state .phase) .doublings) (record { 0 = j });
-        scratch = cleared need (d .scratch)
-      }
+      state = x;
+      weights = doubled S j (d .weights);
+      marks = ms;
+      ledger = set (d .ledger) (guessOf (d .state .phase) .doublings) (record { 0 = j });
+      scratch = cleared need (d .scratch);
+    }
 
     -- the round that reaches the limit rules the guess out
     last-kept : rulesOut (d .state .n) (guessOf (d .state .phase) .k) (guessOf (d .state .phase) .doublings + 1) ≡ true
         → Kept S (judged bound ms (Some j) ∷ es) (left (record {
-            phase = Idle; n = d .state .n; m = d .state .m; floor = guessOf (d .state .phase) .k;
-            book = bookRewritten (d .state .book) (lineOf (guessOf (d .state .phase) .k) (guessOf (d .state .phase) .doublings + 1) RuledOut)
-          }))
+          phase = Idle;
+          n = d .state .n;
+          m = d .state .m;
+          floor = guessOf (d .state .phase) .k;
+          book = bookRewritten (d .state .book) (lineOf (guessOf (d .state .phase) .k) (guessOf (d .state .phase) .doublings + 1) RuledOut);
+        }))
     last-kept last =
         let o = pass .open-guess in
         let p = kept .playing o in
@@ -319,28 +332,32 @@ module _ (S : RangeSpace) (within : Within S) (es : List Event) (d : Desk) (kept
           same = λ _. n-same;
           front = front-now;
           guessed = λ k f.
-            let old = kept .guessed k f in
-            let k-is = played k o f in
-            let verdict : lastVerdict (limitOf (S .points) k) (judged bound ms (Some j) ∷ es) ≡ RuledOut = cond-true _ _ _ (eq-eqb (length (doubledIn es) + 1) (limitOf (S .points) k) (omega (arith, p .lines-are, full, ap (limitOf (S .points)) k-is))) in
-            record {
-              some = old .some; few = old .few; all-good = good-now k k-is f;
-              limited = omega (arith, rounds-now, full, ap (limitOf (S .points)) k-is);
-              line = now-some o r RuledOut;
-              told = now-told o r RuledOut ∙ (λ i. Some (lineOf (k-is i) (sym long-now i) (sym verdict i)))
-            };
+              let old = kept .guessed k f in
+              let k-is = played k o f in
+              let verdict : lastVerdict (limitOf (S .points) k) (judged bound ms (Some j) ∷ es) ≡ RuledOut = cond-true _ _ _ (eq-eqb (length (doubledIn es) + 1) (limitOf (S .points) k) (omega (arith, p .lines-are, full, ap (limitOf (S .points)) k-is))) in
+              record {
+                some = old .some;
+                few = old .few;
+                all-good = good-now k k-is f;
+                limited = omega (arith, rounds-now, full, ap (limitOf (S .points)) k-is);
+                line = now-some o r RuledOut;
+                told = now-told o r RuledOut ∙ (λ i. Some (lineOf (k-is i) (sym long-now i) (sym verdict i)));
+              };
           playing = λ f. false-true f;
           ended = λ _ k f reached. inr (long-now ∙ full ∙ ap (limitOf (S .points)) (played k o f));
           ruled = now-ruled o r RuledOut (λ _. more);
-          floor = λ _. more
+          floor = λ _. more;
         }
 
     -- any other lets it go on
     on-kept : rulesOut (d .state .n) (guessOf (d .state .phase) .k) (guessOf (d .state .phase) .doublings + 1) ≡ false
         → Kept S (judged bound ms (Some j) ∷ es) (left (record {
-            phase = Guessing (record { k = guessOf (d .state .phase) .k; doublings = guessOf (d .state .phase) .doublings + 1; total = guessOf (d .state .phase) .total + rangeWeight S (d .weights) j });
-            n = d .state .n; m = d .state .m; floor = d .state .floor;
-            book = bookRewritten (d .state .book) (lineOf (guessOf (d .state .phase) .k) (guessOf (d .state .phase) .doublings + 1) Open)
-          }))
+          phase = Guessing (record { k = guessOf (d .state .phase) .k; doublings = guessOf (d .state .phase) .doublings + 1; total = guessOf (d .state .phase) .total + rangeWeight S (d .weights) j });
+          n = d .state .n;
+          m = d .state .m;
+          floor = d .state .floor;
+          book = bookRewritten (d .state .book) (lineOf (guessOf (d .state .phase) .k) (guessOf (d .state .phase) .doublings + 1) Open);
+        }))
     on-kept goes-on =
         let o = pass .open-guess in
         let p = kept .playing o in
@@ -355,26 +372,28 @@ module _ (S : RangeSpace) (within : Within S) (es : List Event) (d : Desk) (kept
           same = λ _. n-same;
           front = front-now;
           guessed = λ k f.
-            let old = kept .guessed k f in
-            let k-is = played k o f in
-            let verdict : lastVerdict (limitOf (S .points) k) (judged bound ms (Some j) ∷ es) ≡ Open = cond-false _ _ _ (ne-eqb (length (doubledIn es) + 1) (limitOf (S .points) k) (λ e. omega (arith, e, p .lines-are, early-now, ap (limitOf (S .points)) k-is))) in
-            record {
-              some = old .some; few = old .few; all-good = good-now k k-is f;
-              limited = omega (arith, rounds-now, early-now, ap (limitOf (S .points)) k-is);
-              line = now-some o r Open;
-              told = now-told o r Open ∙ (λ i. Some (lineOf (k-is i) (sym long-now i) (sym verdict i)))
-            };
+              let old = kept .guessed k f in
+              let k-is = played k o f in
+              let verdict : lastVerdict (limitOf (S .points) k) (judged bound ms (Some j) ∷ es) ≡ Open = cond-false _ _ _ (ne-eqb (length (doubledIn es) + 1) (limitOf (S .points) k) (λ e. omega (arith, e, p .lines-are, early-now, ap (limitOf (S .points)) k-is))) in
+              record {
+                some = old .some;
+                few = old .few;
+                all-good = good-now k k-is f;
+                limited = omega (arith, rounds-now, early-now, ap (limitOf (S .points)) k-is);
+                line = now-some o r Open;
+                told = now-told o r Open ∙ (λ i. Some (lineOf (k-is i) (sym long-now i) (sym verdict i)));
+              };
           playing = λ _. record { is = p .is; rounds-are = rounds-now; lines-are = long-now; weights-are = weights-now; early = early-now };
           ended = λ f. true-false f;
           ruled = now-ruled o r Open (λ f. (let z : _≡_ {A = ℕ} 0 1 = cc in absurd (omega arith)));
-          floor = kept .floor
+          floor = kept .floor;
         }
 
     miss-kept : Kept S (judged bound ms (Some j) ∷ es) (roundDesk S need d ms (Some j))
     miss-kept =
         elim (cases-bool (rulesOut (d .state .n) (guessOf (d .state .phase) .k) (guessOf (d .state .phase) .doublings + 1))) [
-          inl last ↦ subst (λ (x : State). Kept S (judged bound ms (Some j) ∷ es) (left x)) (sym (cond-true _ _ _ last)) (last-kept last)
-        | inr goes-on ↦ subst (λ (x : State). Kept S (judged bound ms (Some j) ∷ es) (left x)) (sym (cond-false _ _ _ goes-on)) (on-kept goes-on)
+          | inl last ↦ subst (λ (x : State). Kept S (judged bound ms (Some j) ∷ es) (left x)) (sym (cond-true _ _ _ last)) (last-kept last)
+          | inr goes-on ↦ subst (λ (x : State). Kept S (judged bound ms (Some j) ∷ es) (left x)) (sym (cond-false _ _ _ goes-on)) (on-kept goes-on)
         ]
 
   round-kept : (need bound : ℕ) (ms : List ℕ) (o : Option ℕ) → Passed S (d .state) (d .weights) (length (d .marks)) (length (d .ledger)) (length (d .scratch)) need
@@ -414,9 +433,9 @@ certificate : (S : RangeSpace) (k : ℕ) (js : List ℕ) (ledger : List RangeNum
 certificate S k js ledger some few all full is =
     let lines : length ledger ≡ limitOf (S .points) k = sym (length-map ledger (λ (x : RangeNumber). x .0)) ∙ ap length is ∙ full in
     let right : replayCheck S k (length ledger) (S .points) ≡ Ok tt =
-          cond-false _ _ _ (ap not (eq-eqb (S .points) (S .points) refl))
-          ∙ cond-false _ _ _ ((λ i. ne-eqb k 0 (λ e. omega arith) i || le-ltb (S .points) k few i))
-          ∙ cond-false _ _ _ (ap not (eq-eqb (length ledger) _ lines)) in
+    cond-false _ _ _ (ap not (eq-eqb (S .points) (S .points) refl))
+    ∙ cond-false _ _ _ ((λ i. ne-eqb k 0 (λ e. omega arith) i || le-ltb (S .points) k few i))
+    ∙ cond-false _ _ _ (ap not (eq-eqb (length ledger) _ lines)) in
     ap (λ x. andReplay x (replayed S k 0 (ones (S .points)) ledger)) right
     ∙ ap Ok (good-accepted S k 0 (ones (S .points)) ledger (subst (AllGood S k (ones (S .points))) (sym is) all))
 
@@ -435,17 +454,21 @@ lawful S within es d h =
       certified = λ k ledger f full is. (let g = kept .guessed k f in certificate S k (doubledIn es) ledger (g .some) (g .few) (g .all-good) full is);
       hit = hit-right S h;
       found = λ k f full fits. elim (kept .ended (closed-at kept k f full) k f full) [
-          inl hit ↦ hit
+        | inl hit ↦ hit
         | inr all ↦ (
             let g = kept .guessed k f in
             let more = full-ledger S k (doubledIn es) within (g .some) (g .few) all (g .all-good) (fits .0) (fits .1) in
             absurd (omega (arith, more, fits .2)))
-        ]
+      ];
     }
   where
-  -- the round that reaches the limit leaves no guess open
-  closed-at : Kept S es d → (k : ℕ) → guessIn es ≡ Some k → rounds es ≡ limitOf (S .points) k → isGuessing (d .state .phase) ≡ false
-  closed-at kept k f full = elim (cases-bool (isGuessing (d .state .phase))) [
-      inl o ↦ (let p = kept .playing o in absurd (omega (arith, p .rounds-are, p .early, ap (limitOf (S .points)) (same-guess es _ k (p .is) f), full)))
-    | inr shut ↦ shut
+    -- the round that reaches the limit leaves no guess open
+    closed-at : Kept S es d → (k : ℕ) → guessIn es ≡ Some k → rounds es ≡ limitOf (S .points) k → isGuessing (d .state .phase) ≡ false
+    closed-at kept k f full = elim (cases-bool (isGuessing (d .state .phase))) [
+      | inl o ↦ (let p = kept .playing o in absurd (omega (arith, p .rounds-are, p .early, ap (limitOf (S .points)) (same-guess es _ k (p .is) f), full)))
+      | inr shut ↦ shut
     ]
+
+pub along : (S : RangeSpace) → Within S → {es : List Event} {d : Desk} (h : History S es d) → Along h
+along S within (start ws ms ledger scratch) = lawful S within [] _ (start ws ms ledger scratch)
+along S within (next {es} {d} {d′} {e} h s) = (lawful S within (e ∷ es) d′ (next h s), along S within h)

@@ -1,3 +1,4 @@
 pub mod Openings
 pub mod Rounds
 pub mod Laws
+pub mod Performs

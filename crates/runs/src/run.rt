@@ -4,6 +4,8 @@ ghost use Rattle.guesses.specs.Books.{bookLines, lineAt};
 ghost use Rattle.ledgers.specs.Doublings.{ones};
 ghost use Rattle.runs.specs.Runs.{SomeGuess, FewGuess, FewPoints, Unfinished, GrownTotal, blankState, beginCheck, begunState, openCheck, openState, giveUpCheck, gaveUpState, guessOf, roomCheck, orGuess, accepted, after, roundCheck, roundState, roundWeights, roundLedger, cleared, Played, Ready};
 ghost use Rattle.ranges.specs.Refusals.{verdictOf};
+ghost use mathlib.Core.List.{List, _∷_};
+ghost use Rattle.runs.specs.Histories.{Event, History, Lawful, RoundDone};
 ghost use Rattle.ranges.specs.Weights.{chosen};
 ghost use Rattle.ranges.specs.Spaces.{Within};
 use crate::round::Lengths;
@@ -69,7 +71,8 @@ impl Run {
         self.state.book.line(i)
     }
 
-    pub(crate) fn begin<S: Space>(&mut self, s: &S) -> Result<(), Refusal>
+    // Begins on a space whose every range holds a point.
+    pub fn begin<S: Space>(&mut self, s: &S) -> Result<(), Refusal>
         ensures answer { λ r. ⌜ r ≡ beginCheck (S·Space .meaning (now (s .entry))) (now (self .entry) .state) ⌝ }
         ensures state { λ r. ⌜ now (self .exit) .state ≡ accepted r (begunState (S·Space .meaning (now (s .entry)))) (now (self .entry) .state) ⌝ }
     {
@@ -89,7 +92,8 @@ impl Run {
         Ok(())
     }
 
-    pub(crate) fn open<S: Space>(
+    // Opens guess k: every weight 1, and a new line in the book.
+    pub fn open<S: Space>(
         &mut self,
         s: &S,
         k: u16,
@@ -106,8 +110,47 @@ impl Run {
         Ok(())
     }
 
+    // One round: the finder marks a net, the verifier judges it.
+    pub fn round<S: Space, F: Finder<S>, V: Verifier<S>>(
+        &mut self,
+        s: &S,
+        f: &F,
+        v: &V,
+        weights: &mut [u64],
+        marks: &mut [u8],
+        ledger: &mut [RangeNumber],
+        scratch: &mut [u8],
+    ) -> Result<(), Refusal>
+        ensures check { λ r. ⌜ r ≡ roundCheck (S·Space .meaning (now (s .entry))) (now (self .entry) .state) (now (weights .entry)) (length (now (marks .entry))) (length (now (ledger .entry))) (length (now (scratch .entry))) (F·Finder .promise (now (f .entry)) .need (S·Space .meaning (now (s .entry)) .points) (S·Space .meaning (now (s .entry)) .ranges)) ⌝ }
+        ensures done { λ r. ⌜ RoundDone (F·Finder .promise (now (f .entry))) (V·Verifier .promise (now (v .entry))) (S·Space .meaning (now (s .entry))) r (record { state = now (self .entry) .state; weights = now (weights .entry); marks = now (marks .entry); ledger = now (ledger .entry); scratch = now (scratch .entry) }) (record { state = now (self .exit) .state; weights = now (weights .exit); marks = now (marks .exit); ledger = now (ledger .exit); scratch = now (scratch .exit) }) ⌝ }
+        ensures law { λ _. ⌜ ((es : List Event) → History (S·Space .meaning (now (s .entry))) es (record { state = now (self .entry) .state; weights = now (weights .entry); marks = now (marks .entry); ledger = now (ledger .entry); scratch = now (scratch .entry) }) → (e : Event) × History (S·Space .meaning (now (s .entry))) (e ∷ es) (record { state = now (self .exit) .state; weights = now (weights .exit); marks = now (marks .exit); ledger = now (ledger .exit); scratch = now (scratch .exit) }) × Lawful (S·Space .meaning (now (s .entry))) (e ∷ es) (record { state = now (self .exit) .state; weights = now (weights .exit); marks = now (marks .exit); ledger = now (ledger .exit); scratch = now (scratch .exit) })) ⌝ }
+    {
+        self.judged_round(s, f, v, weights, marks, ledger, scratch)
+    }
+
+    // A round as a step of a history.
+    fn judged_round<S: Space, F: Finder<S>, V: Verifier<S>>(
+        &mut self,
+        s: &S,
+        f: &F,
+        v: &V,
+        weights: &mut [u64],
+        marks: &mut [u8],
+        ledger: &mut [RangeNumber],
+        scratch: &mut [u8],
+    ) -> Result<(), Refusal>
+        ensures check { λ r. ⌜ r ≡ roundCheck (S·Space .meaning (now (s .entry))) (now (self .entry) .state) (now (weights .entry)) (length (now (marks .entry))) (length (now (ledger .entry))) (length (now (scratch .entry))) (F·Finder .promise (now (f .entry)) .need (S·Space .meaning (now (s .entry)) .points) (S·Space .meaning (now (s .entry)) .ranges)) ⌝ }
+        ensures done { λ r. ⌜ RoundDone (F·Finder .promise (now (f .entry))) (V·Verifier .promise (now (v .entry))) (S·Space .meaning (now (s .entry))) r (record { state = now (self .entry) .state; weights = now (weights .entry); marks = now (marks .entry); ledger = now (ledger .entry); scratch = now (scratch .entry) }) (record { state = now (self .exit) .state; weights = now (weights .exit); marks = now (marks .exit); ledger = now (ledger .exit); scratch = now (scratch .exit) }) ⌝ }
+        ensures law { λ _. ⌜ ((es : List Event) → History (S·Space .meaning (now (s .entry))) es (record { state = now (self .entry) .state; weights = now (weights .entry); marks = now (marks .entry); ledger = now (ledger .entry); scratch = now (scratch .entry) }) → (e : Event) × History (S·Space .meaning (now (s .entry))) (e ∷ es) (record { state = now (self .exit) .state; weights = now (weights .exit); marks = now (marks .exit); ledger = now (ledger .exit); scratch = now (scratch .exit) }) × Lawful (S·Space .meaning (now (s .entry))) (e ∷ es) (record { state = now (self .exit) .state; weights = now (weights .exit); marks = now (marks .exit); ledger = now (ledger .exit); scratch = now (scratch .exit) })) ⌝ }
+    {
+        match self.play_round(s, f, v, weights, marks, ledger, scratch) {
+            Ok(_) => Ok(()),
+            Err(e) => Err(e),
+        }
+    }
+
     // One round; accepted, it answers the range missed, if any.
-    pub(crate) fn play_round<S: Space, F: Finder<S>, V: Verifier<S>>(
+    fn play_round<S: Space, F: Finder<S>, V: Verifier<S>>(
         &mut self,
         s: &S,
         f: &F,
@@ -118,6 +161,7 @@ impl Run {
         scratch: &mut [u8],
     ) -> Result<Option<RangeNumber>, Refusal>
         ensures check { λ r. ⌜ verdictOf r ≡ roundCheck (S·Space .meaning (now (s .entry))) (now (self .entry) .state) (now (weights .entry)) (length (now (marks .entry))) (length (now (ledger .entry))) (length (now (scratch .entry))) (F·Finder .promise (now (f .entry)) .need (S·Space .meaning (now (s .entry)) .points) (S·Space .meaning (now (s .entry)) .ranges)) ⌝ }
+        ensures within { λ _. ⌜ Within (S·Space .meaning (now (s .entry))) ⌝ }
         ensures net { λ r. ⌜ Played (F·Finder .promise (now (f .entry))) (V·Verifier .promise (now (v .entry))) (S·Space .meaning (now (s .entry))) (guessOf (now (self .entry) .state .phase) .k) (now (weights .entry)) r (now (marks .entry)) (now (marks .exit)) ⌝ }
         ensures state { λ r. ⌜ now (self .exit) .state ≡ after r (roundState (S·Space .meaning (now (s .entry))) (now (self .entry) .state) (now (weights .entry)) (chosen (now (marks .exit)))) (now (self .entry) .state) ⌝ }
         ensures weights { λ r. ⌜ now (weights .exit) ≡ after r (roundWeights (S·Space .meaning (now (s .entry))) (now (weights .entry))) (now (weights .entry)) ⌝ }
@@ -157,13 +201,15 @@ impl Run {
         lengths: Lengths,
     ) -> Result<OpenGuess, Refusal>
         ensures check { λ r. ⌜ r ≡ orGuess (roundCheck (S·Space .meaning (now (s .entry))) (now (self .entry) .state) (now (weights .entry)) (lengths .marks) (lengths .ledger) (lengths .scratch) (F·Finder .promise (now (f .entry)) .need (S·Space .meaning (now (s .entry)) .points) (S·Space .meaning (now (s .entry)) .ranges))) (guessOf (now (self .entry) .state .phase)) ⌝ }
+        ensures within { λ _. ⌜ Within (S·Space .meaning (now (s .entry))) ⌝ }
         ensures ready { λ r. ⌜ Ready (S·Space .meaning (now (s .entry))) (now (self .entry) .state) (now (weights .entry)) (lengths .marks) (lengths .ledger) (lengths .scratch) (F·Finder .promise (now (f .entry)) .need (S·Space .meaning (now (s .entry)) .points) (S·Space .meaning (now (s .entry)) .ranges)) r ⌝ }
     {
         let need = f.need(s.points(), s.ranges());
         check_round(&self.state, s, weights, lengths, need)
     }
 
-    pub(crate) fn give_up(&mut self) -> Result<(), Refusal>
+    // Closes the open guess as given up.
+    pub fn give_up(&mut self) -> Result<(), Refusal>
         ensures answer { λ r. ⌜ r ≡ giveUpCheck (now (self .entry) .state) ⌝ }
         ensures state { λ r. ⌜ now (self .exit) .state ≡ accepted r (gaveUpState (now (self .entry) .state)) (now (self .entry) .state) ⌝ }
     {

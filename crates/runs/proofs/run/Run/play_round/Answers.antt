@@ -8,7 +8,7 @@ use Rattle.runs.proofs.Rounds.{or-guess-err, judged-light, miss-keeps}
 use Rattle.runs.proofs.run.Run.play_round.Needs as need
 
 pub returns-in-Err : need.returns-in-Err
-returns-in-Err g c = record { check = or-guess-err _ _ (c .in-Err .e) (c .in-Err .ensures tt .check); net = refl; state = refl; weights = refl; ledger = refl; scratch = refl }
+returns-in-Err g c = record { check = or-guess-err _ _ (c .in-Err .e) (c .in-Err .ensures tt .check); within = c .ready .ensures .within; net = refl; state = refl; weights = refl; ledger = refl; scratch = refl }
 
 pub ghost-self : need.ghost-self
 ghost-self g c =

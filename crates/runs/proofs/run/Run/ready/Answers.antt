@@ -15,6 +15,7 @@ returns g c =
     let check = c .check-round .ensures .check ∙ ap (λ x. orGuess (roundCheck (g .S·Space .meaning (c .args .s .now)) (run .state) (c .args .weights .now) (c .args .lengths .marks) (c .args .lengths .ledger) (c .args .lengths .scratch) x) (guessOf (run .state .phase))) needed in
     record {
       check = check;
+      within = c .check-round .ensures .within;
       ready = round-ready (g .S·Space .meaning (c .args .s .now)) (run .state) (c .args .weights .now) (c .args .lengths .marks) (c .args .lengths .ledger) (c .args .lengths .scratch) _
           (c .check-round .ensures .within) (run .someGuess) (run .fewGuess) (run .fewPoints) (run .unfinished) (run .grown) (c .check-round .result) check;
     }
