@@ -1,0 +1,10 @@
+pub mod Books
+pub mod Stores
+pub mod Points
+pub mod Written
+pub mod All
+pub mod Numbers
+pub mod ReadBack
+pub mod Whole
+pub mod Closed
+pub mod Singles
