@@ -64,11 +64,19 @@ impl Run {
         self.state.floor
     }
 
+    // The book of guesses.
+    pub fn book(&self) -> Book
+        ensures { λ r. ⌜ r ≡ now (self .entry) .state .book ⌝ }
+    {
+        self.state.book
+    }
+
     // Line i of the book, from 0.
     pub fn line(&self, i: usize) -> Option<GuessLine>
         ensures { λ r. ⌜ r ≡ lineAt (bookLines (now (self .entry) .state .book)) i ⌝ }
     {
-        self.state.book.line(i)
+        let book = &self.state.book;
+        book.line(i)
     }
 
     // Begins on a space whose every range holds a point.
