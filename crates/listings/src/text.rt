@@ -94,7 +94,7 @@ fn put_piece(out: &mut [u8], at: usize, piece: Piece) -> usize
     }
 }
 
-pub fn put_pieces(out: &mut [u8], at: usize, pieces: &[Piece]) -> usize
+pub(crate) fn put_pieces(out: &mut [u8], at: usize, pieces: &[Piece]) -> usize
     requires { ⌜ at + 11 * length (now pieces) ≤ 2 ^ 57 ⌝ }
     ensures laid { λ r. ⌜ Laid (now (out .entry)) at (piecesText (now (pieces .entry))) (now (out .exit)) r ⌝ }
     ensures short { λ r. ⌜ r ≤ at + 11 * length (now (pieces .entry)) ⌝ }

@@ -4,7 +4,7 @@ ghost use Prim.Native.Nat.{_+_, _≤_};
 ghost use lib.ListN.{length};
 ghost use Rattle.sheets.specs.Bytes.{Fit, bytes16, bytes32, stored, get16, get32};
 
-pub fn store16(sheet: &mut [u8], at: usize, x: u16)
+pub(crate) fn store16(sheet: &mut [u8], at: usize, x: u16)
     requires { ⌜ at + 2 ≤ length (now sheet) ⌝ }
     ensures fit { λ _. ⌜ Fit x ⌝ }
     ensures bytes { λ _. ⌜ now (sheet .exit) ≡ stored (now (sheet .entry)) at (bytes16 x) ⌝ }
@@ -14,7 +14,7 @@ pub fn store16(sheet: &mut [u8], at: usize, x: u16)
     sheet[at + 1] = high;
 }
 
-pub fn store32(sheet: &mut [u8], at: usize, x: u32)
+pub(crate) fn store32(sheet: &mut [u8], at: usize, x: u32)
     requires { ⌜ at + 4 ≤ length (now sheet) ⌝ }
     ensures { λ _. ⌜ now (sheet .exit) ≡ stored (now (sheet .entry)) at (bytes32 x) ⌝ }
 {
@@ -25,14 +25,14 @@ pub fn store32(sheet: &mut [u8], at: usize, x: u32)
     sheet[at + 3] = high;
 }
 
-pub fn read16(sheet: &[u8], at: usize) -> u16
+pub(crate) fn read16(sheet: &[u8], at: usize) -> u16
     requires { ⌜ at + 2 ≤ length (now sheet) ⌝ }
     ensures { λ r. ⌜ r ≡ get16 (now (sheet .entry)) at ⌝ }
 {
     u16::from_le_bytes([sheet[at], sheet[at + 1]])
 }
 
-pub fn read32(sheet: &[u8], at: usize) -> u32
+pub(crate) fn read32(sheet: &[u8], at: usize) -> u32
     requires { ⌜ at + 4 ≤ length (now sheet) ⌝ }
     ensures { λ r. ⌜ r ≡ get32 (now (sheet .entry)) at ⌝ }
 {

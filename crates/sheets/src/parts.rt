@@ -24,7 +24,7 @@ fn store_lines(sheet: &mut [u8], at: usize, lines: &[RangeNumber])
 }
 
 // A ledger section: its guess, how many lines it has, and the lines.
-pub fn store_section(sheet: &mut [u8], at: usize, k: u16, lines: &[RangeNumber])
+pub(crate) fn store_section(sheet: &mut [u8], at: usize, k: u16, lines: &[RangeNumber])
     requires { ⌜ at + sectionLength (now lines) ≤ length (now sheet) ⌝ ∗ ⌜ length (now lines) ≤ 16383 ⌝ }
     ensures bytes { λ _. ⌜ now (sheet .exit) ≡ stored (now (sheet .entry)) at (sectionBytes k (now (lines .entry))) ⌝ }
     ensures fit { λ _. ⌜ LinesFit (now (lines .entry)) (length (now (lines .entry))) ⌝ }
@@ -65,7 +65,7 @@ fn store_line(sheet: &mut [u8], at: usize, line: GuessLine)
     store16(sheet, at + 6, verdict_points(line.verdict));
 }
 
-pub fn store_book(sheet: &mut [u8], at: usize, book: &Book)
+pub(crate) fn store_book(sheet: &mut [u8], at: usize, book: &Book)
     requires { ⌜ at + 8 * length (bookLines (now book)) ≤ length (now sheet) ⌝ }
     ensures bytes { λ _. ⌜ now (sheet .exit) ≡ stored (now (sheet .entry)) at (bookBytes (bookLines (now (book .entry)))) ⌝ }
     ensures fit { λ _. ⌜ BookFits (bookLines (now (book .entry))) (length (bookLines (now (book .entry)))) ⌝ }
@@ -78,7 +78,7 @@ pub fn store_book(sheet: &mut [u8], at: usize, book: &Book)
 }
 
 // How many points are marked.
-pub fn count_marked(marks: &[u8]) -> usize
+pub(crate) fn count_marked(marks: &[u8]) -> usize
     requires { ⌜ length (now marks) ≤ 4096 ⌝ }
     ensures value { λ r. ⌜ r ≡ length (chosenPoints (now (marks .entry))) ⌝ }
     ensures most { λ r. ⌜ r ≤ 4096 ⌝ }
@@ -107,7 +107,7 @@ fn store_point(sheet: &mut [u8], at: usize, marks: &[u8], p: PointNumber) -> usi
 }
 
 // The numbers of the marked points, ascending.
-pub fn store_points(sheet: &mut [u8], at: usize, marks: &[u8])
+pub(crate) fn store_points(sheet: &mut [u8], at: usize, marks: &[u8])
     requires { ⌜ at + 2 * length (chosenPoints (now marks)) ≤ length (now sheet) ⌝ ∗ ⌜ length (now marks) ≤ 4096 ⌝ }
     ensures { λ _. ⌜ now (sheet .exit) ≡ stored (now (sheet .entry)) at (numbersBytes (chosenPoints (now (marks .entry)))) ⌝ }
 {

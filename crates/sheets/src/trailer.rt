@@ -21,7 +21,7 @@ pub struct Trailer {
     pub floor: u16,
 }
 
-pub fn store_trailer(sheet: &mut [u8], at: usize, t: Trailer)
+pub(crate) fn store_trailer(sheet: &mut [u8], at: usize, t: Trailer)
     requires { ⌜ at + 16 ≤ length (now sheet) ⌝ }
     ensures { λ _. ⌜ now (sheet .exit) ≡ stored (now (sheet .entry)) at (trailerBytes t) ⌝ }
 {
@@ -32,7 +32,7 @@ pub fn store_trailer(sheet: &mut [u8], at: usize, t: Trailer)
     store16(sheet, at + 14, t.floor);
 }
 
-pub fn read_trailer(sheet: &[u8], at: usize) -> Trailer
+pub(crate) fn read_trailer(sheet: &[u8], at: usize) -> Trailer
     requires { ⌜ at + 16 ≤ length (now sheet) ⌝ }
     ensures { λ r. ⌜ r ≡ trailerAt (now (sheet .entry)) at ⌝ }
 {

@@ -1,16 +1,21 @@
 // One job from its lists to verified points, and a sheet of boxes; every value printed comes from a call.
+mod paper;
+mod show;
+mod web;
+
+use crate::show::refused;
+use crate::show::show_marks;
 use nets::finder::Finder;
 use nets::sweep::Sweep;
 use nets::sweep::SweepFinder;
 use nets::verifier::Lowest;
 use nets::verifier::LowestVerifier;
 use nets::verifier::Verifier;
-use ranges::hit::is_marked;
 use ranges::number::PointNumber;
 use ranges::number::RangeNumber;
-use ranges::refusal::Refusal;
 use ranges::refusal::answer_number;
 use ranges::space::Space;
+use runs::run::Run;
 use shapes::box_range::BoxPoint;
 use shapes::box_range::BoxRange;
 use shapes::boxes::Boxes;
@@ -67,7 +72,21 @@ fn main(rt: LibcRuntime) -> Result<(), AnyError> {
 
 fn run(rt: &LibcRuntime) -> Result<(), AnyError> {
     web_job(rt)?;
+    web_run(rt)?;
     box_sheet(rt)
+}
+
+// The same job carried through a run, with its listing and its sheet; then a list of calls.
+fn web_run(rt: &LibcRuntime) -> Result<(), AnyError> {
+    let space = Strips::new(&WEB_POINTS, &WEB_STRIPS);
+    let mut run = Run::new();
+    let mut b = web::fresh_buffers();
+    web::play_job(rt, &space, &mut run, &mut b)?;
+    let book = run.book();
+    paper::show_listing(rt, &book, run.floor(), &b.marks)?;
+    paper::show_sheet(rt, &b.ledger[0..9], &book, &b.marks)?;
+    paper::tear_up(rt, &b.ledger[0..9])?;
+    web::perform_list(rt, &space)
 }
 
 // The strips of a web: guess 1 misses a range, guess 2 hits them all.
@@ -116,15 +135,6 @@ fn try_guess(
     show_verdict(rt, space, marks)
 }
 
-fn show_marks(rt: &LibcRuntime, marks: &[u8; 4]) -> Result<(), AnyError> {
-    for p in 0..4 {
-        if is_marked(marks, PointNumber(p)) {
-            println!(rt, "at {p}")?;
-        }
-    }
-    Ok(())
-}
-
 fn show_verdict<S: Space>(rt: &LibcRuntime, space: &S, marks: &[u8; 4]) -> Result<(), AnyError> {
     match Lowest.judge(space, marks, &[1; 4]) {
         Ok(Some(j)) => {
@@ -135,13 +145,4 @@ fn show_verdict<S: Space>(rt: &LibcRuntime, space: &S, marks: &[u8; 4]) -> Resul
         Err(e) => return Err(refused(e)),
     }
     Ok(())
-}
-
-fn refused(e: Refusal) -> AnyError {
-    match e.number() {
-        8 => "a buffer has the wrong length".into(),
-        11 => "the guess is out of range".into(),
-        16 => "the total is too large".into(),
-        _ => "a call was refused".into(),
-    }
 }
