@@ -11,9 +11,9 @@ fn main(rt: LibcRuntime) -> Result<(), AnyError> {
 fn run(rt: &LibcRuntime) -> Result<(), AnyError> {
     lists::box_counts(rt)?;
     lists::box_coordinates(rt)?;
-    lists::strip_lists(rt)?;
+    lists::strip_counts(rt)?;
+    lists::strip_coordinates(rt)?;
     lists::refused_spaces(rt)?;
     finding::finder_calls(rt)?;
-    finding::totals(rt)?;
     finding::verifier_calls(rt)
 }

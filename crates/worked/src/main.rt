@@ -5,7 +5,11 @@ mod web;
 
 use crate::show::refused;
 use crate::show::show_marks;
+use greedy::greedy::Greedy;
+use greedy::greedy::GreedyFinder;
 use nets::finder::Finder;
+use nets::lightest::Lightest;
+use nets::lightest::LightestVerifier;
 use nets::sweep::Sweep;
 use nets::sweep::SweepFinder;
 use nets::verifier::Lowest;
@@ -13,6 +17,7 @@ use nets::verifier::LowestVerifier;
 use nets::verifier::Verifier;
 use ranges::number::PointNumber;
 use ranges::number::RangeNumber;
+use ranges::refusal::Refusal;
 use ranges::refusal::answer_number;
 use ranges::space::Space;
 use runs::run::Run;
@@ -37,6 +42,9 @@ const WEB_POINTS: [StripPoint; 4] = [
 ];
 
 const WEB_STRIPS: [StripRange; 2] = [StripRange { a: 0, b: 10 }, StripRange { a: 20, b: 30 }];
+
+// Every point weighs 1.
+const ONES: [u64; 4] = [1; 4];
 
 const SHEET_POINTS: [BoxPoint; 4] = [
     BoxPoint { x: 10, y: 10 },
@@ -73,7 +81,23 @@ fn main(rt: LibcRuntime) -> Result<(), AnyError> {
 fn run(rt: &LibcRuntime) -> Result<(), AnyError> {
     web_job(rt)?;
     web_run(rt)?;
-    box_sheet(rt)
+    box_sheet(rt)?;
+    box_nets(rt)
+}
+
+// The strips of a web: guess 1 misses a range, guess 2 hits them all.
+fn web_job(rt: &LibcRuntime) -> Result<(), AnyError> {
+    let checked = answer_number(&check_strips(&WEB_POINTS, &WEB_STRIPS));
+    println!(rt, "strips: check {checked}")?;
+    let space = Strips::new(&WEB_POINTS, &WEB_STRIPS);
+    show_counts(rt, &space)?;
+    for k in [1, 2] {
+        let mut marks = [0u8; 4];
+        let found = Sweep.find(&space, k, &ONES, &mut marks, &mut []);
+        show_net(rt, "the sweep", k, found, &marks)?;
+        show_verdict(rt, "lowest", Lowest.judge(&space, &marks, &ONES))?;
+    }
+    Ok(())
 }
 
 // The same job carried through a run, with its listing and its sheet; then a list of calls.
@@ -89,17 +113,6 @@ fn web_run(rt: &LibcRuntime) -> Result<(), AnyError> {
     web::perform_list(rt, &space)
 }
 
-// The strips of a web: guess 1 misses a range, guess 2 hits them all.
-fn web_job(rt: &LibcRuntime) -> Result<(), AnyError> {
-    let checked = answer_number(&check_strips(&WEB_POINTS, &WEB_STRIPS));
-    println!(rt, "strips: check {checked}")?;
-    let space = Strips::new(&WEB_POINTS, &WEB_STRIPS);
-    show_counts(rt, &space)?;
-    let mut marks = [0u8; 4];
-    try_guess(rt, &space, 1, &mut marks)?;
-    try_guess(rt, &space, 2, &mut marks)
-}
-
 // Boxes: what a box holds, and what the lowest verifier says of some marks.
 fn box_sheet(rt: &LibcRuntime) -> Result<(), AnyError> {
     let checked = answer_number(&check_boxes(&SHEET_POINTS, &SHEET_BOXES));
@@ -108,9 +121,23 @@ fn box_sheet(rt: &LibcRuntime) -> Result<(), AnyError> {
     show_counts(rt, &space)?;
     let corner = space.holds(RangeNumber(0), PointNumber(0));
     println!(rt, "box 0 holds point 0: {corner}")?;
-    show_verdict(rt, &space, &[0, 0, 1, 0])?;
-    show_verdict(rt, &space, &[1, 1, 0, 0])?;
-    show_verdict(rt, &space, &[1, 1, 0, 1])
+    for marks in [[0, 0, 1, 0], [1, 1, 0, 0], [1, 1, 0, 1]] {
+        show_verdict(rt, "lowest", Lowest.judge(&space, &marks, &ONES))?;
+    }
+    Ok(())
+}
+
+// Greedy on the boxes: guess 1 leaves all of them light, guess 2 hits one, guess 4 hits them all.
+fn box_nets(rt: &LibcRuntime) -> Result<(), AnyError> {
+    let space = Boxes::new(&SHEET_POINTS, &SHEET_BOXES);
+    for k in [1, 2, 4] {
+        let mut marks = [0u8; 4];
+        let found = Greedy.find(&space, k, &ONES, &mut marks, &mut [0; 3]);
+        show_net(rt, "greedy", k, found, &marks)?;
+        show_verdict(rt, "lowest", Lowest.judge(&space, &marks, &ONES))?;
+        show_verdict(rt, "lightest", Lightest.judge(&space, &marks, &ONES))?;
+    }
+    Ok(())
 }
 
 fn show_counts<S: Space>(rt: &LibcRuntime, space: &S) -> Result<(), AnyError> {
@@ -120,28 +147,32 @@ fn show_counts<S: Space>(rt: &LibcRuntime, space: &S) -> Result<(), AnyError> {
     Ok(())
 }
 
-// Sweeps for one guess under weights 1, and has the net judged.
-fn try_guess(
+// The points that a finder marked for one guess.
+fn show_net(
     rt: &LibcRuntime,
-    space: &Strips<'_>,
+    who: &str,
     k: u16,
-    marks: &mut [u8; 4],
+    found: Result<u16, Refusal>,
+    marks: &[u8; 4],
 ) -> Result<(), AnyError> {
-    match Sweep.find(space, k, &[1; 4], marks, &mut []) {
-        Ok(count) => println!(rt, "guess {k}: the sweep marks {count}")?,
+    match found {
+        Ok(count) => println!(rt, "guess {k}: {who} marks {count}")?,
         Err(e) => return Err(refused(e)),
     }
-    show_marks(rt, marks)?;
-    show_verdict(rt, space, marks)
+    show_marks(rt, marks)
 }
 
-fn show_verdict<S: Space>(rt: &LibcRuntime, space: &S, marks: &[u8; 4]) -> Result<(), AnyError> {
-    match Lowest.judge(space, marks, &[1; 4]) {
+fn show_verdict(
+    rt: &LibcRuntime,
+    who: &str,
+    judged: Result<Option<RangeNumber>, Refusal>,
+) -> Result<(), AnyError> {
+    match judged {
         Ok(Some(j)) => {
             let j = j.0;
-            println!(rt, "range {j} is missed")?;
+            println!(rt, "{who}: range {j} is missed")?;
         }
-        Ok(None) => println!(rt, "every range is hit")?,
+        Ok(None) => println!(rt, "{who}: every range is hit")?,
         Err(e) => return Err(refused(e)),
     }
     Ok(())
