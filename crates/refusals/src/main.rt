@@ -1,7 +1,6 @@
 // Runs every refusal at its limit and one beyond, and prints the number that each call answers.
 #![tactic(auto)]
 
-
 mod finding;
 mod lists;
 

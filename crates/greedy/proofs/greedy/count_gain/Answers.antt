@@ -4,8 +4,8 @@ use Rattle.ranges.proofs.Sums.{sum_more, count_le}
 use Rattle.greedy.specs.Flags.{flagged}
 use Rattle.greedy.proofs.greedy.count_gain.Goals as goal
 
-pub overflow-add-gain : goal.overflow-add-gain
-overflow-add-gain g c =
+pub overflow_add-gain : goal.overflow_add-gain
+overflow_add-gain g c =
     omega (arith, count_le (λ j. flagged c.args.flags.now j && (g.S.Space.meaning c.args.s.now).holds j c.args.p.0) c.loop-j.j)
 
 pub loop-j-preserved : goal.loop-j-preserved

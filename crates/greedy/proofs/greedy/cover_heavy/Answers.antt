@@ -5,26 +5,26 @@ use Rattle.greedy.proofs.greedy.cover_heavy.Goals as goal
 
 pub loop-unhit-init : goal.loop-unhit-init
 loop-unhit-init g c =
-    kept_start _ _ _ _ _ _ c.flag-heavy-unhit.ensures.flags c.flag-heavy-unhit.ensures.count
-    (c.forget-gains.ensures ∙ ap (λ n. tabulated (λ _. 254) n) c.requires.long)
+    kept_start _ _ _ _ _ _ c.flag_heavy-unhit.ensures.flags c.flag_heavy-unhit.ensures.count
+    (c.forget_gains.ensures ∙ ap (λ n. tabulated (λ _. 254) n) c.requires.long)
 
-pub overflow-sub-unhit : goal.overflow-sub-unhit
-overflow-sub-unhit g c =
-    omega (arith, c.mark-best-unhit.ensures.count, gain_fits _ _ _ _ _ _ _ c.requires.asked c.loop-unhit.invariant)
+pub overflow_sub-unhit : goal.overflow_sub-unhit
+overflow_sub-unhit g c =
+    omega (arith, c.mark_best-unhit.ensures.count, gain_fits _ _ _ _ _ _ _ c.requires.asked c.loop-unhit.invariant)
 
-pub overflow-add-count : goal.overflow-add-count
-overflow-add-count g c =
+pub overflow_add-count : goal.overflow_add-count
+overflow_add-count g c =
     omega (arith, c.requires.asked.within.few_points, one_more _ _ _ _ _ _ _ c.requires.asked c.loop-unhit.invariant (omega arith))
 
 pub loop-unhit-smaller : goal.loop-unhit-smaller
 loop-unhit-smaller g c =
-    omega (arith, c.mark-best-unhit.ensures.count, gain_some _ _ _ _ _ _ _ c.requires.asked c.loop-unhit.invariant (omega arith))
+    omega (arith, c.mark_best-unhit.ensures.count, gain_some _ _ _ _ _ _ _ c.requires.asked c.loop-unhit.invariant (omega arith))
 
 pub loop-unhit-preserved : goal.loop-unhit-preserved
 loop-unhit-preserved g c =
-    subst (λ (x : ℕ). Kept (g.S.Space.meaning c.args.s.now) c.args.k c.args.weights.now c.mark-best-unhit.new.flags c.mark-best-unhit.new.marks (c.loop-unhit.unhit - x) (c.loop-unhit.count + 1))
-    (sym c.mark-best-unhit.ensures.count)
-    (kept_step _ _ _ _ _ _ _ c.requires.asked c.loop-unhit.invariant (omega arith) _ _ c.mark-best-unhit.ensures.flags c.mark-best-unhit.ensures.taken c.mark-best-unhit.ensures.known)
+    subst (λ (x : ℕ). Kept (g.S.Space.meaning c.args.s.now) c.args.k c.args.weights.now c.mark_best-unhit.new.flags c.mark_best-unhit.new.marks (c.loop-unhit.unhit - x) (c.loop-unhit.count + 1))
+    (sym c.mark_best-unhit.ensures.count)
+    (kept_step _ _ _ _ _ _ _ c.requires.asked c.loop-unhit.invariant (omega arith) _ _ c.mark_best-unhit.ensures.flags c.mark_best-unhit.ensures.taken c.mark_best-unhit.ensures.known)
 
 pub returns : goal.returns
 returns g c =

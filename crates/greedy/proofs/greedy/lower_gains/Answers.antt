@@ -9,7 +9,7 @@ loop-p-preserved g c =
     let f = less_held S c.args.j.0 c.args.marks.now in
     let next = over_next f c.args.marks.now c.loop-p.marks c.loop-p.p c.loop-p.invariant (omega arith) in
     over_step f c.args.marks.now _ _ _ c.loop-p.invariant (omega arith)
-    (c.lower-gain.ensures ∙ ap (λ x. cond (S.holds c.args.j.0 c.loop-p.p) (one_less x) x) next)
+    (c.lower_gain.ensures ∙ ap (λ x. cond (S.holds c.args.j.0 c.loop-p.p) (one_less x) x) next)
 
 pub returns : goal.returns
 returns g c =

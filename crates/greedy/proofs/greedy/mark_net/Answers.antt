@@ -8,11 +8,11 @@ use Rattle.greedy.proofs.greedy.mark_net.Goals as goal
 pub returns : goal.returns
 returns g c =
     let S = g.S.Space.meaning c.args.s.now in
-    let long : length c.cover-heavy-count.new.marks ≡ S.points = omega arith in
-    let net : c.settle-marks.new.marks ≡ greedy_net S c.args.k c.args.weights.now =
-    c.settle-marks.ensures ∙ ap₂ (λ P n. tabulated (λ p. bit (P p)) n) c.cover-heavy-count.ensures.points long in
+    let long : length c.cover_heavy-count.new.marks ≡ S.points = omega arith in
+    let net : c.settle_marks.new.marks ≡ greedy_net S c.args.k c.args.weights.now =
+    c.settle_marks.ensures ∙ ap₂ (λ P n. tabulated (λ p. bit (P p)) n) c.cover_heavy-count.ensures.points long in
     record {
       marks = net;
-      count = c.cover-heavy-count.ensures.count ∙ sym (ap chosen net ∙ marks_chosen (greedy_points S c.args.k c.args.weights.now) S.points);
-      flags = c.cover-heavy-count.ensures.flags;
+      count = c.cover_heavy-count.ensures.count ∙ sym (ap chosen net ∙ marks_chosen (greedy_points S c.args.k c.args.weights.now) S.points);
+      flags = c.cover_heavy-count.ensures.flags;
     }

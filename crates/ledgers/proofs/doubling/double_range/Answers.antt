@@ -7,7 +7,7 @@ use Rattle.ledgers.proofs.doubling.double_range.Goals.{then-holds, else-holds}
 pub loop-p-preserved : goal.loop-p-preserved
 loop-p-preserved g c =
     elim c.if-holds.branch [
-      | then-holds w ↦ held_next (g.S.Space.meaning c.args.s.now) c.args.j.0 c.args.weights.now c.loop-p.weights c.loop-p.p c.loop-p.invariant c.if-holds.weights (sym w.if-holds.ensures) (w.weights-is ∙ w.double-weight.ensures)
+      | then-holds w ↦ held_next (g.S.Space.meaning c.args.s.now) c.args.j.0 c.args.weights.now c.loop-p.weights c.loop-p.p c.loop-p.invariant c.if-holds.weights (sym w.if-holds.ensures) (w.weights-is ∙ w.double_weight.ensures)
       | else-holds w ↦ free_next (g.S.Space.meaning c.args.s.now) c.args.j.0 c.args.weights.now c.loop-p.weights c.loop-p.p c.loop-p.invariant c.if-holds.weights (sym w.if-holds.ensures) w.weights-is
     ]
 

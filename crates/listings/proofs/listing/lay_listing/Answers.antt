@@ -5,4 +5,4 @@ use Rattle.listings.proofs.listing.lay_listing.Goals as goal
 
 pub returns : goal.returns
 returns c =
-    record { digits = decimal_law; bytes = laid_whole (listing c.args.n c.args.m (book_lines c.args.book.now) c.args.floor c.args.marks.now) c.args.out.now c.put-listing-end.new.out c.put-listing-end.result c.put-listing-end.ensures c.requires.1 }
+    record { digits = decimal_law; bytes = laid_whole (listing c.args.n c.args.m (book_lines c.args.book.now) c.args.floor c.args.marks.now) c.args.out.now c.put_listing-end.new.out c.put_listing-end.result c.put_listing-end.ensures c.requires.1 }

@@ -9,6 +9,6 @@ pub returns : goal.returns
 returns c =
     let ls = book_lines c.args.book.now in
     let ms = c.args.marks.now in
-    laid_then (pieces_text (head_pieces c.args.n c.args.m)) _ c.put-head-after-head.ensures.laid
-    (laid_then (guesses_text ls) _ c.put-guesses-after-guesses.ensures.laid
-    (laid_then (pieces_text (floor_pieces c.args.floor)) (points_text (chosen_points ms)) c.put-floor-after-floor.ensures.laid c.put-points.ensures.laid))
+    laid_then (pieces_text (head_pieces c.args.n c.args.m)) _ c.put_head-after_head.ensures.laid
+    (laid_then (guesses_text ls) _ c.put_guesses-after_guesses.ensures.laid
+    (laid_then (pieces_text (floor_pieces c.args.floor)) (points_text (chosen_points ms)) c.put_floor-after_floor.ensures.laid c.put_points.ensures.laid))

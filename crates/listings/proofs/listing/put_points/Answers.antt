@@ -11,8 +11,8 @@ pub loop-p-preserved : goal.loop-p-preserved
 loop-p-preserved c =
     let ms = c.args.marks.now in
     let whole = ap points_text (chosen_more ms c.loop-p.p) ∙ joined_append at_text (chosen_below ms c.loop-p.p) (chosen_at ms c.loop-p.p) in
-    let laid = laid_then (points_text (chosen_below ms c.loop-p.p)) (points_text (chosen_at ms c.loop-p.p)) c.loop-p.invariant.0 c.put-point-next.ensures.laid in
-    (subst (λ (t : List ℕ). Laid c.args.out.now c.args.at t c.put-point-next.new.out c.put-point-next.result) (sym whole) laid, omega arith)
+    let laid = laid_then (points_text (chosen_below ms c.loop-p.p)) (points_text (chosen_at ms c.loop-p.p)) c.loop-p.invariant.0 c.put_point-next.ensures.laid in
+    (subst (λ (t : List ℕ). Laid c.args.out.now c.args.at t c.put_point-next.new.out c.put_point-next.result) (sym whole) laid, omega arith)
 
 pub returns : goal.returns
 returns c =

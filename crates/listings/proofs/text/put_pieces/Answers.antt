@@ -7,7 +7,7 @@ use Rattle.listings.proofs.text.put_pieces.Goals as goal
 
 pub loop-piece-preserved : goal.loop-piece-preserved
 loop-piece-preserved c =
-    (left_more piece_text c.args.pieces.now c.loop-piece.piece-index (Written Points) c.loop-piece.out c.put-piece-next.new.out c.args.out.now c.loop-piece.next c.put-piece-next.result c.args.at c.loop-piece-test.true c.put-piece-next.ensures.laid c.loop-piece.invariant.0, omega arith)
+    (left_more piece_text c.args.pieces.now c.loop-piece.piece-index (Written Points) c.loop-piece.out c.put_piece-next.new.out c.args.out.now c.loop-piece.next c.put_piece-next.result c.args.at c.loop-piece-test.true c.put_piece-next.ensures.laid c.loop-piece.invariant.0, omega arith)
 
 pub returns : goal.returns
 returns c =

@@ -3,12 +3,12 @@ use Rattle.listings.specs.Text.{Laid}
 use Rattle.listings.proofs.Laying.{left_more, left_all, joined_bytes}
 use Rattle.listings.proofs.text.put_word.Goals as goal
 
-pub put-byte-next-requires : goal.put-byte-next-requires
-put-byte-next-requires c = omega (arith, c.loop-b.invariant.1, ap length (joined_bytes c.args.word.now))
+pub put_byte-next-requires : goal.put_byte-next-requires
+put_byte-next-requires c = omega (arith, c.loop-b.invariant.1, ap length (joined_bytes c.args.word.now))
 
 pub loop-b-preserved : goal.loop-b-preserved
 loop-b-preserved c =
-    left_more (λ b. b ∷ []) c.args.word.now c.loop-b.b-index 0 c.loop-b.out c.put-byte-next.new.out c.args.out.now c.loop-b.next c.put-byte-next.result c.args.at c.loop-b-test.true c.put-byte-next.ensures c.loop-b.invariant
+    left_more (λ b. b ∷ []) c.args.word.now c.loop-b.b-index 0 c.loop-b.out c.put_byte-next.new.out c.args.out.now c.loop-b.next c.put_byte-next.result c.args.at c.loop-b-test.true c.put_byte-next.ensures c.loop-b.invariant
 
 pub returns : goal.returns
 returns c =

@@ -9,24 +9,24 @@ use Rattle.nets.specs.Sweeps.{full, sweep_net}
 use Rattle.nets.specs.SweepsLemmas.{sum_fits, turn_full, turn_carried, count_more, byte_le}
 use Rattle.nets.proofs.sweep.sweep_marks.Goals as goal
 
-pub overflow-add-sum : goal.overflow-add-sum
-overflow-add-sum c =
+pub overflow_add-sum : goal.overflow_add-sum
+overflow_add-sum c =
     record { fits = sum_fits c.args.k c.args.weights.now c.loop-i.i c.loop-i.sum c.loop-i.invariant.0 c.loop-i-test.true (omega arith) }
 
-pub overflow-add-count : goal.overflow-add-count
-overflow-add-count c =
-    omega (arith, count_le (full c.args.k c.args.weights.now) c.loop-i.i, c.loop-i.invariant.1, byte_le c.carry-on-full.result.0)
+pub overflow_add-count : goal.overflow_add-count
+overflow_add-count c =
+    omega (arith, count_le (full c.args.k c.args.weights.now) c.loop-i.i, c.loop-i.invariant.1, byte_le c.carry_on-full.result.0)
 
 pub loop-i-preserved : goal.loop-i-preserved
 loop-i-preserved c =
     let k = c.args.k in
     let ws = c.args.weights.now in
     let i = c.loop-i.i in
-    let is-full = turn_full k ws i c.loop-i.sum c.args.whole c.carry-on-full.result c.loop-i.invariant.0 c.requires.whole c.carry-on-full.ensures in
-    let written : c.write-mark.new.marks ≡ set c.loop-i.marks i (cond (full k ws i) 1 0) = c.write-mark.ensures ∙ ap (λ b. set c.loop-i.marks i (cond b 1 0)) is-full in
+    let is-full = turn_full k ws i c.loop-i.sum c.args.whole c.carry_on-full.result c.loop-i.invariant.0 c.requires.whole c.carry_on-full.ensures in
+    let written : c.write_mark.new.marks ≡ set c.loop-i.marks i (cond (full k ws i) 1 0) = c.write_mark.ensures ∙ ap (λ b. set c.loop-i.marks i (cond b 1 0)) is-full in
     let l : i < length c.loop-i.marks = omega arith in (
-      turn_carried k ws i c.loop-i.sum c.args.whole c.carry-on-full.result c.loop-i.invariant.0 c.requires.whole c.carry-on-full.ensures,
-      count_more (full k ws) i c.loop-i.count c.from-count.result c.carry-on-full.result.0 c.loop-i.invariant.1 c.from-count.ensures is-full,
+      turn_carried k ws i c.loop-i.sum c.args.whole c.carry_on-full.result c.loop-i.invariant.0 c.requires.whole c.carry_on-full.ensures,
+      count_more (full k ws) i c.loop-i.count c.from-count.result c.carry_on-full.result.0 c.loop-i.invariant.1 c.from-count.ensures is-full,
       λ p b. ap (λ ms. get_or ms p 0) written ∙ fill_by_more (λ q. cond (full k ws q) 1 0) c.loop-i.marks i 0 l c.loop-i.invariant.2 p b,
     )
 

@@ -17,8 +17,8 @@ unreachable-requires g c =
     let z : ◌≡◌ {A = ℕ} 0 1 = cc in
     omega arith
 
-pub play-rounds-rounds-requires : goal.play-rounds-rounds-requires
-play-rounds-rounds-requires g c =
+pub play_rounds-rounds-requires : goal.play_rounds-rounds-requires
+play_rounds-rounds-requires g c =
     let S = g.S.Space.meaning c.args.s.now in
     let F = g.F.Finder.promise c.args.f.now in
     let before : Desk = record { state = c.args.run.now.state; weights = c.args.weights.now; marks = c.args.marks.now; ledger = c.args.ledger.now; scratch = c.args.scratch.now } in
@@ -26,8 +26,8 @@ play-rounds-rounds-requires g c =
     let is : after ≡ open_desk S c.args.k before = (λ i. record { state = c.in-Ok.ensures.state i; weights = c.in-Ok.ensures.weights i; marks = c.args.marks.now; ledger = c.args.ledger.now; scratch = c.args.scratch.now }) in
     subst (Fitted S (F.need S.points S.ranges)) (sym is) (open_fitted S (F.need S.points S.ranges) c.args.k before c.requires.fitted)
 
-pub add-ledger-requires : goal.add-ledger-requires
-add-ledger-requires g c =
+pub add_ledger-requires : goal.add_ledger-requires
+add_ledger-requires g c =
     let S = g.S.Space.meaning c.args.s.now in
     let F = g.F.Finder.promise c.args.f.now in
     let V = g.V.Verifier.promise c.args.v.now in
@@ -36,22 +36,22 @@ add-ledger-requires g c =
     let within = c.points-n.ensures.within in
     let before : Desk = record { state = c.args.run.now.state; weights = c.args.weights.now; marks = c.args.marks.now; ledger = c.args.ledger.now; scratch = c.args.scratch.now } in
     let opened : Desk = record { state = c.open.new.self.state; weights = c.open.new.weights; marks = c.args.marks.now; ledger = c.args.ledger.now; scratch = c.args.scratch.now } in
-    let after : Desk = record { state = c.play-rounds-rounds.new.run.state; weights = c.play-rounds-rounds.new.weights; marks = c.play-rounds-rounds.new.marks; ledger = c.play-rounds-rounds.new.ledger; scratch = c.play-rounds-rounds.new.scratch } in
+    let after : Desk = record { state = c.play_rounds-rounds.new.run.state; weights = c.play_rounds-rounds.new.weights; marks = c.play_rounds-rounds.new.marks; ledger = c.play_rounds-rounds.new.ledger; scratch = c.play_rounds-rounds.new.scratch } in
     let is : opened ≡ open_desk S k before = (λ i. record { state = c.in-Ok.ensures.state i; weights = c.in-Ok.ensures.weights i; marks = c.args.marks.now; ledger = c.args.ledger.now; scratch = c.args.scratch.now }) in
     let small = ready_small F V S k before c.args.writer.now c.args.sheet.now within c.requires in
     let past = c.requires.past in
-    let raised : c.play-rounds-rounds.new.run.state.floor ≡ k = eqb-true _ _ (sym c.is-ruled-out.ensures ∙ c.if-is-ruled-out.true) in
-    let room = room_left F V S k before c.args.writer.now c.args.sheet.now within c.requires opened after c.play-rounds-rounds.result is c.play-rounds-rounds.ensures.course c.play-rounds-rounds.ensures.closed
+    let raised : c.play_rounds-rounds.new.run.state.floor ≡ k = eqb-true _ _ (sym c.is_ruled_out.ensures ∙ c.if-is_ruled_out.true) in
+    let room = room_left F V S k before c.args.writer.now c.args.sheet.now within c.requires opened after c.play_rounds-rounds.result is c.play_rounds-rounds.ensures.course c.play_rounds-rounds.ensures.closed
     past.0 past.2 past.1 past.3 past.4 past.5 past.6 raised in
     record {
       guess = (small.0, (omega (arith, small.1), omega (arith, within.few_points)));
-      lines = omega (arith, c.play-rounds-rounds.ensures.fitted.ledger);
+      lines = omega (arith, c.play_rounds-rounds.ensures.fitted.ledger);
       room = subst (λ (x : ℕ). c.args.writer.now.len + (4 + 2 * limit_of x k) ≤ 24 * x + 320) (sym value) room;
       long = omega (arith, c.requires.long);
     }
 
-pub returns-then-is-ruled-out : goal.returns-then-is-ruled-out
-returns-then-is-ruled-out g c =
+pub returns-then-is_ruled_out : goal.returns-then-is_ruled_out
+returns-then-is_ruled_out g c =
     let S = g.S.Space.meaning c.args.s.now in
     let F = g.F.Finder.promise c.args.f.now in
     let V = g.V.Verifier.promise c.args.v.now in
@@ -62,30 +62,30 @@ returns-then-is-ruled-out g c =
     let within = c.points-n.ensures.within in
     let before : Desk = record { state = c.args.run.now.state; weights = c.args.weights.now; marks = c.args.marks.now; ledger = c.args.ledger.now; scratch = c.args.scratch.now } in
     let opened : Desk = record { state = c.open.new.self.state; weights = c.open.new.weights; marks = c.args.marks.now; ledger = c.args.ledger.now; scratch = c.args.scratch.now } in
-    let after : Desk = record { state = c.play-rounds-rounds.new.run.state; weights = c.play-rounds-rounds.new.weights; marks = c.play-rounds-rounds.new.marks; ledger = c.play-rounds-rounds.new.ledger; scratch = c.play-rounds-rounds.new.scratch } in
+    let after : Desk = record { state = c.play_rounds-rounds.new.run.state; weights = c.play_rounds-rounds.new.weights; marks = c.play_rounds-rounds.new.marks; ledger = c.play_rounds-rounds.new.ledger; scratch = c.play_rounds-rounds.new.scratch } in
     let is : opened ≡ open_desk S k before = (λ i. record { state = c.in-Ok.ensures.state i; weights = c.in-Ok.ensures.weights i; marks = c.args.marks.now; ledger = c.args.ledger.now; scratch = c.args.scratch.now }) in
     let past = c.requires.past in
-    let r = c.play-rounds-rounds.result in
-    let courses = c.play-rounds-rounds.ensures.course in
-    let closed = c.play-rounds-rounds.ensures.closed in
-    let fit = c.play-rounds-rounds.ensures.fitted in
-    let raised : c.play-rounds-rounds.new.run.state.floor ≡ k = eqb-true _ _ (sym c.is-ruled-out.ensures ∙ c.if-is-ruled-out.true) in
-    let w' = c.add-ledger.new.writer in
-    let sheet' = c.add-ledger.new.sheet in
-    let lines = c.play-rounds-rounds.new.ledger in
-    let writer-is = subst (λ (x : ℕ). w' ≡ next_writer w k (take (limit_of x k) lines)) value c.add-ledger.ensures.writer in
-    let bytes-are = subst (λ (x : ℕ). sheet' ≡ put sheet w.len (section_bytes k (take (limit_of x k) lines))) value c.add-ledger.ensures.bytes in
-    let keeps = subst (λ (x : ℕ). AddKeeps (Ok tt) w sheet k (take (limit_of x k) lines) w' sheet') value c.add-ledger.ensures.written in
+    let r = c.play_rounds-rounds.result in
+    let courses = c.play_rounds-rounds.ensures.course in
+    let closed = c.play_rounds-rounds.ensures.closed in
+    let fit = c.play_rounds-rounds.ensures.fitted in
+    let raised : c.play_rounds-rounds.new.run.state.floor ≡ k = eqb-true _ _ (sym c.is_ruled_out.ensures ∙ c.if-is_ruled_out.true) in
+    let w' = c.add_ledger.new.writer in
+    let sheet' = c.add_ledger.new.sheet in
+    let lines = c.play_rounds-rounds.new.ledger in
+    let writer-is = subst (λ (x : ℕ). w' ≡ next_writer w k (take (limit_of x k) lines)) value c.add_ledger.ensures.writer in
+    let bytes-are = subst (λ (x : ℕ). sheet' ≡ put sheet w.len (section_bytes k (take (limit_of x k) lines))) value c.add_ledger.ensures.bytes in
+    let keeps = subst (λ (x : ℕ). AddKeeps (Ok tt) w sheet k (take (limit_of x k) lines) w' sheet') value c.add_ledger.ensures.written in
     let long : length sheet' ≡ length sheet = omega arith in
     record {
       settled = settled_ruled F V S k before w sheet within c.requires opened after r is courses closed past.0 past.2 past.1 past.3 past.4 past.5 past.6 raised fit w' sheet' writer-is bytes-are keeps long;
       plays = λ from sheet₀ rounds blank ahead. story_ruled F V S k before w sheet within c.requires opened after r is courses closed from blank ahead.0 ahead.1.way ahead.2 ahead.3 ahead.4 raised fit w' sheet' writer-is bytes-are keeps long sheet₀ rounds ahead.1;
-      rounds = c.play-rounds-rounds.ensures.counted.1;
+      rounds = c.play_rounds-rounds.ensures.counted.1;
       lines = (played F V S k before w sheet within c.requires opened after r is courses closed past.0 past.2 past.1 past.3 past.4 past.5 past.6).lines_are;
     }
 
-pub returns-else-is-ruled-out : goal.returns-else-is-ruled-out
-returns-else-is-ruled-out g c =
+pub returns-else-is_ruled_out : goal.returns-else-is_ruled_out
+returns-else-is_ruled_out g c =
     let S = g.S.Space.meaning c.args.s.now in
     let F = g.F.Finder.promise c.args.f.now in
     let V = g.V.Verifier.promise c.args.v.now in
@@ -95,16 +95,16 @@ returns-else-is-ruled-out g c =
     let within = c.points-n.ensures.within in
     let before : Desk = record { state = c.args.run.now.state; weights = c.args.weights.now; marks = c.args.marks.now; ledger = c.args.ledger.now; scratch = c.args.scratch.now } in
     let opened : Desk = record { state = c.open.new.self.state; weights = c.open.new.weights; marks = c.args.marks.now; ledger = c.args.ledger.now; scratch = c.args.scratch.now } in
-    let after : Desk = record { state = c.play-rounds-rounds.new.run.state; weights = c.play-rounds-rounds.new.weights; marks = c.play-rounds-rounds.new.marks; ledger = c.play-rounds-rounds.new.ledger; scratch = c.play-rounds-rounds.new.scratch } in
+    let after : Desk = record { state = c.play_rounds-rounds.new.run.state; weights = c.play_rounds-rounds.new.weights; marks = c.play_rounds-rounds.new.marks; ledger = c.play_rounds-rounds.new.ledger; scratch = c.play_rounds-rounds.new.scratch } in
     let is : opened ≡ open_desk S k before = (λ i. record { state = c.in-Ok.ensures.state i; weights = c.in-Ok.ensures.weights i; marks = c.args.marks.now; ledger = c.args.ledger.now; scratch = c.args.scratch.now }) in
     let past = c.requires.past in
-    let r = c.play-rounds-rounds.result in
-    let courses = c.play-rounds-rounds.ensures.course in
-    let closed = c.play-rounds-rounds.ensures.closed in
-    let other : c.play-rounds-rounds.new.run.state.floor ≡ k → ⊥ = eqb-false _ _ (sym c.is-ruled-out.ensures ∙ c.if-is-ruled-out.false) in
+    let r = c.play_rounds-rounds.result in
+    let courses = c.play_rounds-rounds.ensures.course in
+    let closed = c.play_rounds-rounds.ensures.closed in
+    let other : c.play_rounds-rounds.new.run.state.floor ≡ k → ⊥ = eqb-false _ _ (sym c.is_ruled_out.ensures ∙ c.if-is_ruled_out.false) in
     record {
-      settled = settled_hit F V S k before w sheet within c.requires opened after r is courses closed past.0 past.2 past.1 past.3 past.4 past.5 past.6 other c.play-rounds-rounds.ensures.fitted;
+      settled = settled_hit F V S k before w sheet within c.requires opened after r is courses closed past.0 past.2 past.1 past.3 past.4 past.5 past.6 other c.play_rounds-rounds.ensures.fitted;
       plays = λ from sheet₀ rounds blank ahead. story_hit F V S k before w sheet within c.requires opened after r is courses closed from blank ahead.0 ahead.1.way ahead.2 ahead.3 ahead.4 other sheet₀ rounds ahead.1;
-      rounds = c.play-rounds-rounds.ensures.counted.1;
+      rounds = c.play_rounds-rounds.ensures.counted.1;
       lines = (played F V S k before w sheet within c.requires opened after r is courses closed past.0 past.2 past.1 past.3 past.4 past.5 past.6).lines_are;
     }

@@ -59,8 +59,8 @@ returns-then-ranges-eq0 g c =
       worth F V S from d (begun ∷ []) w sheet sheet after 0 r.3 story e.length room.0 same e.bytes e.back within refl (λ j l. absurd (omega arith)) (λ k is. (let z : ◌≡◌ {A = ℕ} 0 1 = cc in absurd (omega arith))),
     )
 
-pub play-guesses-rounds-requires : goal.play-guesses-rounds-requires
-play-guesses-rounds-requires g c =
+pub play_guesses-rounds-requires : goal.play_guesses-rounds-requires
+play_guesses-rounds-requires g c =
     let S = g.S.Space.meaning c.args.s.now in
     let F = g.F.Finder.promise c.args.f.now in
     let V = g.V.Verifier.promise c.args.v.now in
@@ -83,8 +83,8 @@ finish-requires-2 g c =
     let w = c.begin-writer.result in
     let from : Desk = record { state = blank_state; weights = ws; marks = ms; ledger = ledger; scratch = scratch } in
     let ahead = begin_ahead F V S ws ms ledger scratch sheet within c.requires st w c.in-Ok.ensures.state c.begin-writer.ensures.value (c.begin-writer.ensures.written sheet) in
-    let e = c.play-guesses-rounds.ensures in
-    let last = c.play-guesses-rounds.new in
+    let e = c.play_guesses-rounds.ensures in
+    let last = c.play_guesses-rounds.new in
     let d : Desk = record { state = last.run.state; weights = last.weights; marks = last.marks; ledger = last.ledger; scratch = last.scratch } in
     let done = e.ends from sheet refl ahead in
     let long : length last.sheet ≡ length sheet = omega arith in
@@ -93,7 +93,7 @@ finish-requires-2 g c =
       marks = omega (arith, e.fitted.marks, within.few_points);
       room = room.0;
       short = room.1;
-      floor = story_floor F V S from d sheet last.sheet c.play-guesses-rounds.result done.0 last.writer done.1;
+      floor = story_floor F V S from d sheet last.sheet c.play_guesses-rounds.result done.0 last.writer done.1;
     }
 
 pub returns : goal.returns
@@ -112,8 +112,8 @@ returns g c =
     let from : Desk = record { state = blank_state; weights = ws; marks = ms; ledger = ledger; scratch = scratch } in
     let ahead = begin_ahead F V S ws ms ledger scratch sheet within c.requires st w c.in-Ok.ensures.state c.begin-writer.ensures.value (c.begin-writer.ensures.written sheet) in
     let some : 0 < S.ranges = ranges-some c.ranges-2.result S.ranges c.ranges-2.ensures.value c.if-ranges-eq0.false in
-    let p = c.play-guesses-rounds.ensures in
-    let last = c.play-guesses-rounds.new in
+    let p = c.play_guesses-rounds.ensures in
+    let last = c.play_guesses-rounds.new in
     let d : Desk = record { state = last.run.state; weights = last.weights; marks = last.marks; ledger = last.ledger; scratch = last.scratch } in
     let done = p.ends from sheet refl ahead in
     let es = done.0 in
@@ -128,9 +128,9 @@ returns g c =
     let points : r.0 ≡ chosen last.marks = e.points ∙ hit_points_lem F V S from d es within refl story.way hit.0 hit.1 hit.2 hit.3 hit.4 hit.5 hit.6 in (
       last.run.state,
       es,
-      placement F V S from d es last.writer last.sheet sheet after c.play-guesses-rounds.result r.3 story e.length room.0 same e.bytes e.back r.0 r.1 r.2 points e.floor e.rounds
+      placement F V S from d es last.writer last.sheet sheet after c.play_guesses-rounds.result r.3 story e.length room.0 same e.bytes e.back r.0 r.1 r.2 points e.floor e.rounds
           (hit_finished F V S from d es within refl story.way hit.0 hit.1 hit.2 hit.3 hit.4 hit.5 hit.6 some),
-      worth F V S from d es last.writer last.sheet sheet after c.play-guesses-rounds.result r.3 story e.length room.0 same e.bytes e.back within refl
+      worth F V S from d es last.writer last.sheet sheet after c.play_guesses-rounds.result r.3 story e.length room.0 same e.bytes e.back within refl
           (hit_right F V S from d es within refl story.way hit.0 hit.1 hit.2 hit.3 hit.4 hit.5 hit.6).0
           (hit_few F V S from d es within refl story.way hit.0 hit.1 hit.2 hit.3 hit.4 hit.5 hit.6),
     )

@@ -31,22 +31,22 @@ loop-k-preserved g c =
     let F = g.F.Finder.promise c.args.f.now in
     let V = g.V.Verifier.promise c.args.v.now in
     let was : Desk = record { state = c.loop-k.run.state; weights = c.loop-k.weights; marks = c.loop-k.marks; ledger = c.loop-k.ledger; scratch = c.loop-k.scratch } in
-    let raised : c.loop-k.run.state.floor ≡ c.loop-k.k = eqb-true _ _ (sym c.is-ruled-out.ensures ∙ c.loop-k-test.true) in
+    let raised : c.loop-k.run.state.floor ≡ c.loop-k.k = eqb-true _ _ (sym c.is_ruled_out.ensures ∙ c.loop-k-test.true) in
     let value = c.points-n.ensures.value in
-    let k-is : c.next-guess-k.result ≡ following S.points c.loop-k.k = c.next-guess-k.ensures ∙ ap (λ n. following n c.loop-k.k) value in
+    let k-is : c.next_guess-k.result ≡ following S.points c.loop-k.k = c.next_guess-k.ensures ∙ ap (λ n. following n c.loop-k.k) value in
     let onward = c.loop-k.invariant.0.onward raised in
     let small = ready_small F V S (following S.points c.loop-k.k) was c.loop-k.writer c.loop-k.sheet c.points-n.ensures.within onward.1 in (
-      c.play-guess.ensures.settled,
-      λ from sheet₀ blank ahead. c.play-guess.ensures.plays from sheet₀ c.loop-k.rounds blank
+      c.play_guess.ensures.settled,
+      λ from sheet₀ blank ahead. c.play_guess.ensures.plays from sheet₀ c.loop-k.rounds blank
           (subst (λ (x : ℕ). Ahead F V S from sheet₀ x c.loop-k.rounds was c.loop-k.writer c.loop-k.sheet) (sym k-is) ((c.loop-k.invariant.1 from sheet₀ blank ahead).0 raised)),
-      omega (arith, c.loop-k.invariant.2, c.play-guess.ensures.rounds, c.play-guess.ensures.lines),
+      omega (arith, c.loop-k.invariant.2, c.play_guess.ensures.rounds, c.play_guess.ensures.lines),
       omega (arith, k-is, value, small.1),
     )
 
 pub returns : goal.returns
 returns g c =
     let settled = c.loop-k.invariant.0 in
-    let other : c.loop-k.run.state.floor ≡ c.loop-k.k → ⊥ = eqb-false _ _ (sym c.is-ruled-out.ensures ∙ c.loop-k-test.false) in
+    let other : c.loop-k.run.state.floor ≡ c.loop-k.k → ⊥ = eqb-false _ _ (sym c.is_ruled_out.ensures ∙ c.loop-k-test.false) in
     record {
       fitted = settled.fitted;
       short = settled.short;

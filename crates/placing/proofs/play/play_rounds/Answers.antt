@@ -9,7 +9,7 @@ loop-run-smaller g c =
     let run = c.loop-run.run in
     let was : Desk = record { state = run.state; weights = c.loop-run.weights; marks = c.loop-run.marks; ledger = c.loop-run.ledger; scratch = c.loop-run.scratch } in
     let after : Desk = record { state = c.round.new.self.state; weights = c.round.new.weights; marks = c.round.new.marks; ledger = c.round.new.ledger; scratch = c.round.new.scratch } in
-    let is_open : is_guessing run.state.phase ≡ true = sym c.is-guessing.ensures ∙ c.loop-run-test.true in
+    let is_open : is_guessing run.state.phase ≡ true = sym c.is_guessing.ensures ∙ c.loop-run-test.true in
     next_turns (g.F.Finder.promise c.args.f.now) (g.V.Verifier.promise c.args.v.now) (g.S.Space.meaning c.args.s.now) was after (g.met.F.Finder.sound c.args.f.now) (g.met.V.Verifier.sound c.args.v.now) c.points-n.ensures.within
     run.some_guess run.few_guess run.few_points run.unfinished run.grown c.loop-run.invariant.0 is_open c.in-Ok.ensures.check c.in-Ok.ensures.done
 
@@ -24,7 +24,7 @@ loop-run-preserved g c =
     let within = c.points-n.ensures.within in
     let was : Desk = record { state = run.state; weights = c.loop-run.weights; marks = c.loop-run.marks; ledger = c.loop-run.ledger; scratch = c.loop-run.scratch } in
     let after : Desk = record { state = c.round.new.self.state; weights = c.round.new.weights; marks = c.round.new.marks; ledger = c.round.new.ledger; scratch = c.round.new.scratch } in
-    let is_open : is_guessing run.state.phase ≡ true = sym c.is-guessing.ensures ∙ c.loop-run-test.true in
+    let is_open : is_guessing run.state.phase ≡ true = sym c.is_guessing.ensures ∙ c.loop-run-test.true in
     let check = c.in-Ok.ensures.check in
     let done = c.in-Ok.ensures.done in
     let fit = c.loop-run.invariant.0 in (
@@ -40,7 +40,7 @@ unreachable-requires g c =
     let F = g.F.Finder.promise c.args.f.now in
     let S = g.S.Space.meaning c.args.s.now in
     let was : Desk = record { state = run.state; weights = c.loop-run.weights; marks = c.loop-run.marks; ledger = c.loop-run.ledger; scratch = c.loop-run.scratch } in
-    let is_open : is_guessing run.state.phase ≡ true = sym c.is-guessing.ensures ∙ c.loop-run-test.true in
+    let is_open : is_guessing run.state.phase ≡ true = sym c.is_guessing.ensures ∙ c.loop-run-test.true in
     let fine = round_accepted S (F.need S.points S.ranges) was c.loop-run.invariant.0 run.some_guess run.few_guess run.few_points is_open in
     let refused = c.in-Err.ensures.check in
     let z : ◌≡◌ {A = ℕ} 0 1 = cc in

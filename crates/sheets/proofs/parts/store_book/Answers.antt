@@ -5,7 +5,7 @@ use Rattle.sheets.specs.Bytes.{stored}
 use Rattle.sheets.specs.Sheets.{book_bytes, LineFits}
 use Rattle.sheets.proofs.Books.{line_found}
 use Rattle.sheets.proofs.parts.store_book.Goals as goal
-use Rattle.sheets.proofs.parts.store_book.Goals.{in-Some, in-default}
+use Rattle.sheets.proofs.parts.store_book.Goals.{in-Some, in_default}
 
 pub loop-i-preserved : goal.loop-i-preserved
 loop-i-preserved c =
@@ -14,9 +14,9 @@ loop-i-preserved c =
     let found = c.line.ensures ∙ line_found (book_lines c.args.book.now) c.loop-i.i (omega arith) in
     elim c.match-line.branch [
       | in-Some w ↦ (let same : w.in-Some.line ≡ get_or (book_lines c.args.book.now) c.loop-i.i no_line = cc in
-          let fits : LineFits (get_or (book_lines c.args.book.now) c.loop-i.i no_line) = subst LineFits same w.store-line.ensures.fits in
+          let fits : LineFits (get_or (book_lines c.args.book.now) c.loop-i.i no_line) = subst LineFits same w.store_line.ensures.fits in
           ((cc), below_more _ _ c.loop-i.invariant.1 fits))
-      | in-default w ↦ absurd (w.in-default.not-Some _ found)
+      | in_default w ↦ absurd (w.in_default.not-Some _ found)
     ]
 
 pub returns : goal.returns

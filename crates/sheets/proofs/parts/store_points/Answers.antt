@@ -5,8 +5,8 @@ use Rattle.sheets.proofs.Points.{chosen_more, length_chosen_more, length_chosen_
 use Rattle.sheets.proofs.Stores.{numbers_more}
 use Rattle.sheets.proofs.parts.store_points.Goals as goal
 
-pub store-point-next-requires : goal.store-point-next-requires
-store-point-next-requires c =
+pub store_point-next-requires : goal.store_point-next-requires
+store_point-next-requires c =
     omega (arith, length_chosen_more c.args.marks.now c.loop-p.p, length_chosen_mono c.args.marks.now (c.loop-p.p + 1) (length c.args.marks.now) (omega arith))
 
 pub loop-p-preserved : goal.loop-p-preserved

@@ -37,9 +37,9 @@ returns-in-Round g c =
 pub returns-in-GiveUp : goal.returns-in-GiveUp
 returns-in-GiveUp g c =
     let before : Desk = record { state = c.args.self.now.state; weights = c.args.weights.now; marks = c.args.marks.now; ledger = c.args.ledger.now; scratch = c.args.scratch.now } in
-    let after : Desk = record { state = c.give-up.new.self.state; weights = c.args.weights.now; marks = c.args.marks.now; ledger = c.args.ledger.now; scratch = c.args.scratch.now } in
+    let after : Desk = record { state = c.give_up.new.self.state; weights = c.args.weights.now; marks = c.args.marks.now; ledger = c.args.ledger.now; scratch = c.args.scratch.now } in
     record {
-      step = subst (λ (q : Request). Performed (g.S.Space.meaning c.args.s.now) q c.give-up.result before after) (ap (request_of g.F.Finder.promise g.V.Verifier.promise) (sym c.in-GiveUp.is))
-          (give_up_performed (g.S.Space.meaning c.args.s.now) before after c.give-up.result c.give-up.ensures.answer (λ i. record { state = c.give-up.ensures.state i; weights = c.args.weights.now; marks = c.args.marks.now; ledger = c.args.ledger.now; scratch = c.args.scratch.now }));
+      step = subst (λ (q : Request). Performed (g.S.Space.meaning c.args.s.now) q c.give_up.result before after) (ap (request_of g.F.Finder.promise g.V.Verifier.promise) (sym c.in-GiveUp.is))
+          (give_up_performed (g.S.Space.meaning c.args.s.now) before after c.give_up.result c.give_up.ensures.answer (λ i. record { state = c.give_up.ensures.state i; weights = c.args.weights.now; marks = c.args.marks.now; ledger = c.args.ledger.now; scratch = c.args.scratch.now }));
       within = c.points-n.ensures.within;
     }

@@ -12,11 +12,11 @@ returns c =
     let s = c.args.sheet.now in
     let ls = book_lines c.args.book.now in
     let ms = c.args.marks.now in
-    let laid : c.store-trailer.new.sheet ≡ put s w.len (end_bytes w ls c.args.floor ms) =
-    end_laid w ls c.args.floor ms s c.store-book.new.sheet c.store-points.new.sheet c.store-trailer.new.sheet c.end-trailer.result _ _
-    c.store-book.ensures.bytes c.store-points.ensures c.store-trailer.ensures (omega arith) (omega arith) c.end-trailer.ensures (omega arith) in
+    let laid : c.store_trailer.new.sheet ≡ put s w.len (end_bytes w ls c.args.floor ms) =
+    end_laid w ls c.args.floor ms s c.store_book.new.sheet c.store_points.new.sheet c.store_trailer.new.sheet c.end_trailer.result _ _
+    c.store_book.ensures.bytes c.store_points.ensures c.store_trailer.ensures (omega arith) (omega arith) c.end_trailer.ensures (omega arith) in
     record {
       bytes = laid;
       back = subst (AllReadBack (w.len + end_length ls ms) w s ls c.args.floor ms) (sym laid)
-          (all_back ls ms s c.store-book.ensures.fit (omega arith) (omega arith) w c.args.floor c.requires.1.1.1 (omega arith));
+          (all_back ls ms s c.store_book.ensures.fit (omega arith) (omega arith) w c.args.floor c.requires.1.1.1 (omega arith));
     }

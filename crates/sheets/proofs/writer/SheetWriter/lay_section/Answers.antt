@@ -8,10 +8,10 @@ use Rattle.sheets.proofs.writer.SheetWriter.lay_section.Goals as goal
 
 pub returns : goal.returns
 returns c =
-    let laid : c.store-section.new.sheet ≡ put c.args.sheet.now c.args.self.now.len (section_bytes c.args.k c.args.lines.now) =
-    c.store-section.ensures.bytes ∙ stored_put (section_bytes c.args.k c.args.lines.now) c.args.sheet.now c.args.self.now.len (omega (arith, length_section c.args.k c.args.lines.now)) in
+    let laid : c.store_section.new.sheet ≡ put c.args.sheet.now c.args.self.now.len (section_bytes c.args.k c.args.lines.now) =
+    c.store_section.ensures.bytes ∙ stored_put (section_bytes c.args.k c.args.lines.now) c.args.sheet.now c.args.self.now.len (omega (arith, length_section c.args.k c.args.lines.now)) in
     record {
       bytes = laid;
       written = subst (AddKeeps (Ok tt) c.args.self.now c.args.sheet.now c.args.k c.args.lines.now (next_writer c.args.self.now c.args.k c.args.lines.now)) (sym laid)
-          (add_keeps c.args.self.now c.args.sheet.now c.args.k c.args.lines.now (record { some = omega arith; most = omega arith; few = omega arith; fit = c.store-section.ensures.fit }));
+          (add_keeps c.args.self.now c.args.sheet.now c.args.k c.args.lines.now (record { some = omega arith; most = omega arith; few = omega arith; fit = c.store_section.ensures.fit }));
     }
