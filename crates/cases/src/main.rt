@@ -1,7 +1,6 @@
 // Tables of small cases, each run through the public calls and printed on one line.
 #![tactic(auto)]
 
-
 mod bounds;
 mod box_cases;
 mod picks;

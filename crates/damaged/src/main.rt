@@ -1,7 +1,6 @@
 // Damages sheets one condition at a time, and tries the limits of the calls that write.
 #![tactic(auto)]
 
-
 mod adding;
 mod closing;
 mod job;

@@ -15,7 +15,7 @@ loop-i-preserved c =
     elim c.match-line.branch [
       | in-Some w ↦ (let same : w.in-Some.line ≡ get_or ls c.loop-i.i no_line = cc in
           let out : w.put_guess-next.new.out ≡ c.match-line.out = sym w.out-is in
-          let next : w.put_guess-next.result ≡ c.match-line.next = sym w.next_is in
+          let next : w.put_guess-next.result ≡ c.match-line.next = sym w.next-is in
           let laid : Laid c.loop-i.out c.loop-i.next (guess_text (get_or ls c.loop-i.i no_line)) c.match-line.out c.match-line.next =
           record { bytes = sym out ∙ w.put_guess-next.ensures.laid.bytes ∙ ap (λ l. stored c.loop-i.out c.loop-i.next (guess_text l)) same; place = sym next ∙ w.put_guess-next.ensures.laid.place ∙ ap (λ l. c.loop-i.next + length (guess_text l)) same } in
           (left_more guess_text ls c.loop-i.i no_line c.loop-i.out c.match-line.out c.args.out.now c.loop-i.next c.match-line.next c.args.at (omega arith) laid c.loop-i.invariant.0, omega (arith, w.put_guess-next.ensures.short, next)))
