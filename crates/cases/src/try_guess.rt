@@ -1,5 +1,6 @@
 // One call of a finder, and what the verifiers then say.
 use crate::verdict::{Verdicts, judge};
+use anyhow::anyhow;
 use nets::finder::Finder;
 use ranges::hit::is_marked;
 use ranges::number::PointNumber;
@@ -86,9 +87,9 @@ fn find_net<S: Space, F: Finder<S>>(
 
 fn refused(e: Refusal) -> anyhow::Error {
     match e.number() {
-        8 => "a list has the wrong length".into(),
-        11 => "the guess is out of range".into(),
-        _ => "a finder refused".into(),
+        8 => anyhow!("a list has the wrong length"),
+        11 => anyhow!("the guess is out of range"),
+        _ => anyhow!("a finder refused"),
     }
 }
 

@@ -1,16 +1,16 @@
 -- A full ledger of good lines proves that the guess is too small.
-use Rattle.std.proofs.Common.{◌≡◌, ℕ, zero, suc, ◌+◌, ◌-◌, ◌*◌, ◌^◌, ◌<◌, ◌≤◌, Bool, true, false, cond, List, [], ◌∷◌, length, sym, refl, ap, ◌∙◌, subst, inl, inr, mul_assoc, mul_comm, mul-le-mul_left, pow-suc, arith, pow-add}
+use Rattle.std.proofs.Common.{◌≡◌, ℕ, zero, suc, ◌+◌, ◌-◌, ◌*◌, ◌^◌, ◌<◌, ◌≤◌, Bool, true, false, cond, List, [], ◌∷◌, length, sym, refl, ap, ◌∙◌, subst, inl, inr, mul-le-mul_left, arith, pow-add}
 use native.Mathlib.Nat.{pow-zero}
 use Rattle.std.proofs.lemmas.Bool.{cases_lt, cond_both}
 use Rattle.ranges.specs.Spaces.{RangeSpace, Within}
 use Rattle.ranges.specs.Below.{sum_below, count_below}
 use Rattle.ranges.specs.Weights.{weight_at, total, set_weight, HitsAll}
-use Rattle.ranges.proofs.Sums.{sum_none, sum_suc, sum_add, sum_mul, sum_le, sum_same, sum_part}
+use Rattle.ranges.proofs.Sums.{sum_add, sum_mul, sum_le, sum_same, sum_part}
 use Rattle.guesses.specs.Limits.{doublings_of, limit_of}
 use Rattle.guesses.proofs.Growth.{contradiction}
 use Rattle.guesses.proofs.Limits.{doublings_some}
 use Rattle.guesses.proofs.Potential.{two_pow}
-use Rattle.ledgers.specs.Doublings.{doubled_at, doubled, doubled_by, ones, good, AllGood, NeedsMore, Grown}
+use Rattle.ledgers.specs.Doublings.{doubled, doubled_by, ones, AllGood, NeedsMore, Grown}
 use Rattle.ledgers.proofs.Doublings.{doubled_long, doubled_weight, good_light, grown_all, grown_none, ones_long, ones_at}
 
 -- how many of the listed ranges hold point p

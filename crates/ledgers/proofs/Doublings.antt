@@ -1,12 +1,12 @@
 -- Doubling a range adds its weight to the total, and a light range adds little.
-use Rattle.std.proofs.Common.{◌≡◌, ℕ, zero, suc, ◌+◌, ◌*◌, ◌^◌, ◌<◌, ◌≤◌, Bool, true, false, cond, not, ◌&&◌, List, [], ◌∷◌, length, get_or, replicate, sym, refl, ap, ◌∙◌, subst, inl, inr, mul-le-mul_right, mul_comm, pow-suc, add-one, arith}
+use Rattle.std.proofs.Common.{◌≡◌, ℕ, ◌+◌, ◌*◌, ◌^◌, ◌<◌, ◌≤◌, Bool, true, false, cond, List, [], ◌∷◌, length, sym, refl, ap, ◌∙◌, subst, inl, inr, mul-le-mul_right, mul_comm, pow-suc, add-one, arith}
 use native.Mathlib.Nat.{pow-zero}
 use Rattle.std.proofs.lemmas.List.FromFn.{length-map-range_with_len, get_or-map-range_with_len}
 use Rattle.std.proofs.lemmas.List.{get_or_past, length-replicate, get_or-replicate}
 use Rattle.std.proofs.lemmas.Bool.{cases_lt, and_parts, not-true, ltb-true, ltb-false}
 use Rattle.ranges.specs.Spaces.{RangeSpace}
 use Rattle.ranges.specs.Below.{sum_below}
-use Rattle.ranges.specs.Weights.{weight_at, total, share, range_weight, heavy}
+use Rattle.ranges.specs.Weights.{weight_at, total, share, range_weight}
 use Rattle.ranges.proofs.Sums.{sum_add, sum_same, count_front}
 use Rattle.ledgers.specs.Doublings.{doubled_at, doubled, doubled_by, ones, good, AllGood, Grown}
 

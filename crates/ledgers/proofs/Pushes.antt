@@ -1,5 +1,5 @@
 -- One line more at the end of a ledger.
-use Rattle.std.proofs.Common.{◌≡◌, ℕ, true, List, [], ◌∷◌, ◌++◌, sym, refl, ap, ◌∙◌}
+use Rattle.std.proofs.Common.{◌≡◌, ℕ, true, List, [], ◌∷◌, ◌++◌, refl}
 use Rattle.ranges.specs.Spaces.{RangeSpace}
 use Rattle.ledgers.specs.Doublings.{doubled, doubled_by, good, AllGood}
 

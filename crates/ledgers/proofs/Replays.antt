@@ -1,16 +1,14 @@
 -- A replay, one line at a time, and what its acceptance means.
-use Rattle.std.proofs.Common.{◌≡◌, ℕ, ◌+◌, ◌*◌, ◌^◌, ◌<◌, ◌≤◌, min, Bool, true, false, cond, List, [], ◌∷◌, length, get_or, drop, sym, refl, ap, ◌∙◌, subst, inl, inr, arith}
+use Rattle.std.proofs.Common.{◌≡◌, ℕ, ◌+◌, ◌*◌, ◌^◌, ◌<◌, ◌≤◌, Bool, true, false, cond, List, [], ◌∷◌, length, get_or, drop, sym, refl, ◌∙◌, subst, inl, inr, arith}
 use Rattle.std.proofs.lemmas.List.FromFn.{length-map-range_with_len, get_or-map-range_with_len}
-use Rattle.std.proofs.lemmas.List.{at_drop_more, at_drop_all, length-map, same_lists}
+use Rattle.std.proofs.lemmas.List.{at_drop_more, length-map, same_lists}
 use Rattle.std.proofs.lemmas.Bool.{cases_Bool, cond-true, cond-false}
 use Rattle.ranges.specs.declared.number.RangeNumber.{RangeNumber}
 use Rattle.ranges.specs.Spaces.{RangeSpace, Within}
-use Rattle.ranges.specs.Below.{sum_below}
 use Rattle.ranges.specs.Weights.{weight_at, total, capped, range_weight}
-use Rattle.ranges.proofs.Sums.{sum_part, sum_same}
+use Rattle.ranges.proofs.Sums.{sum_part}
 use Rattle.guesses.specs.Limits.{limit_of}
 use Rattle.guesses.proofs.Growth.{total_bound}
-use Rattle.ledgers.specs.declared.replay.Replayed.{Replayed}
 use Rattle.ledgers.specs.declared.replay.Replayed.TheVariants.{Accepted, BadLine}
 use Rattle.ledgers.specs.Doublings.{doubled_at, doubled, capped_at, capped_doubled, good, AllGood, ones, NeedsMore, Grown}
 use Rattle.ledgers.specs.Replays.{numbers, replayed, replayed_weights}

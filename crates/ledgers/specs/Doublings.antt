@@ -1,5 +1,5 @@
 -- Doubling a range's weights, and what a list of doubled ranges leaves.
-use Rattle.std.specs.Prelude.{◌≡◌, ℕ, ◌+◌, ◌*◌, ◌^◌, ◌<◌, ◌≤◌, Bool, true, false, cond, not, ◌&&◌, List, [], ◌∷◌, length, replicate, nat_lt}
+use Rattle.std.specs.Prelude.{◌≡◌, ℕ, ◌+◌, ◌*◌, ◌^◌, ◌<◌, ◌≤◌, Bool, true, cond, not, ◌&&◌, List, [], ◌∷◌, length, replicate, nat_lt}
 use Rattle.ranges.specs.Spaces.{RangeSpace}
 use Rattle.ranges.specs.Below.{count_below}
 use Rattle.ranges.specs.Weights.{weight_at, heavy, capped, tabulated, HitsAll}

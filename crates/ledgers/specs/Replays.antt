@@ -1,5 +1,5 @@
 -- Replay: a ledger's lines checked and doubled in order.
-use Rattle.std.specs.Prelude.{◌≡◌, ℕ, ◌+◌, Bool, true, false, cond, not, ◌||◌, List, [], ◌∷◌, map, length, Some, None, Ok, Err, Option, Result, ◌==◌, nat_lt}
+use Rattle.std.specs.Prelude.{ℕ, ◌+◌, cond, not, ◌||◌, List, [], ◌∷◌, map, length, Ok, Err, Result, ◌==◌, nat_lt}
 use Rattle.ranges.specs.declared.number.RangeNumber.{RangeNumber}
 use Rattle.ranges.specs.declared.refusal.Refusal.{Refusal}
 use Rattle.ranges.specs.declared.refusal.Refusal.TheVariants.{WrongLength, GuessOutOfRange, LedgerLength}

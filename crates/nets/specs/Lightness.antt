@@ -1,15 +1,15 @@
 -- The lightest missed range is missed, and what the verifier keeps is the best so far.
-use Rattle.std.specs.Prelude.{◌≡◌, ℕ, ◌+◌, ◌^◌, ◌<◌, ◌≤◌, Bool, true, false, cond, List, length, Some, None, Option, nat_lt, refl}
+use Rattle.std.specs.Prelude.{◌≡◌, ℕ, ◌+◌, ◌^◌, ◌≤◌, Bool, true, false, cond, List, length, Some, None, Option, nat_lt, refl}
 use Rattle.std.proofs.Common.{sym, ap, ◌∙◌, arith}
 use Rattle.std.proofs.lemmas.Bool.{not-false, cond_both, cond-true, cond-false}
 use Rattle.ranges.specs.Below.{least_by, lower_of}
-use Rattle.ranges.specs.Spaces.{RangeSpace, Within}
+use Rattle.ranges.specs.Spaces.{RangeSpace}
 use Rattle.ranges.specs.Weights.{weight_at, total, share, range_weight, marked, missed, hit, capped}
 use Rattle.ranges.proofs.Least.{least_by_more, least_by_none, least_by_some}
 use Rattle.ranges.proofs.Hits.{hit_gives, missed_not}
 use Rattle.ranges.proofs.Sums.{sum_le}
 use Rattle.nets.specs.declared.lightest.Weighed.{Weighed}
-use Rattle.nets.specs.Verifiers.{Judged, lightest_missed, lightest_verifier, VerifierSound}
+use Rattle.nets.specs.Verifiers.{lightest_verifier, VerifierSound}
 use Rattle.nets.specs.Weighed.{lighter_of, weighed, weighed_if}
 
 pub lightest_judged : VerifierSound lightest_verifier

@@ -1,17 +1,17 @@
 -- The sweep marks a net for every ordered space.
-use Rattle.std.specs.Prelude.{◌≡◌, ℕ, zero, suc, ◌+◌, ◌-◌, ◌*◌, ◌^◌, ◌<◌, ◌≤◌, Bool, true, false, cond, ◌&&◌, ◌⊎◌, List, length, nat_le, nat_lt, refl}
-use Rattle.std.proofs.Common.{sym, ap, subst, ◌∙◌, inl, inr, mul-le-mul_left, mul-le-mul_right, mul-add, add-one, arith}
+use Rattle.std.specs.Prelude.{◌≡◌, ℕ, zero, suc, ◌+◌, ◌-◌, ◌*◌, ◌^◌, ◌<◌, ◌≤◌, Bool, true, false, cond, List, length, nat_le, nat_lt, refl}
+use Rattle.std.proofs.Common.{sym, ap, ◌∙◌, inl, inr, mul-le-mul_left, mul-le-mul_right, mul-add, add-one, arith}
 use mir.Val.{bool_byte}
 use Rattle.std.proofs.lemmas.Bool.{cases_Bool, cases_lt, ltb-true, ltb-false, and_from, and_parts, and_cases, both_ways, le-leb, lt-ltb, le-ltb, leb-true, cond-true, cond-false}
 use Rattle.ranges.specs.Below.{sum_below, count_below, any_below}
-use Rattle.ranges.specs.Spaces.{RangeSpace, Within, Ordered}
-use Rattle.ranges.specs.Weights.{weight_at, total, share, range_weight, outweighs, heavy, marked, chosen, Hits, hits_at, marks_of}
+use Rattle.ranges.specs.Spaces.{RangeSpace, Ordered}
+use Rattle.ranges.specs.Weights.{weight_at, total, share, outweighs, heavy, marked, chosen, hits_at, marks_of}
 use Rattle.ranges.proofs.Sums.{sum_suc, sum_more, sum_fewer, count_yes, count_no}
 use Rattle.ranges.proofs.Searches.{any_absent}
 use Rattle.ranges.proofs.Hits.{hit_gives}
 use Rattle.ranges.proofs.Marks.{marks_long, marks_bits, marks_marked, marks_chosen}
-use Rattle.nets.specs.Finders.{Asked, Net, FinderSound}
-use Rattle.nets.specs.Sweeps.{carry_on, carried, full, sweep_net, InOrder, sweep_finder}
+use Rattle.nets.specs.Finders.{FinderSound}
+use Rattle.nets.specs.Sweeps.{carry_on, carried, full, sweep_finder}
 
 -- one point more
 pub carried_more : (k : ℕ) (ws : List ℕ) (i : ℕ) → carried k ws (i + 1) ≡ carry_on k (total ws) (carried k ws i + weight_at ws i)

@@ -1,9 +1,9 @@
 -- What a verifier promises: which range it may name.
-use Rattle.std.specs.Prelude.{◌≡◌, ℕ, ◌^◌, ◌<◌, Bool, true, false, not, ◌||◌, List, length, Some, None, Ok, Err, Option, Result, ◌==◌, nat_lt}
+use Rattle.std.specs.Prelude.{◌≡◌, ℕ, ◌^◌, ◌<◌, not, ◌||◌, List, length, Some, None, Ok, Err, Option, Result, ◌==◌, nat_lt}
 use Rattle.ranges.specs.declared.number.RangeNumber.{RangeNumber}
 use Rattle.ranges.specs.declared.refusal.Refusal.{Refusal}
 use Rattle.ranges.specs.declared.refusal.Refusal.TheVariants.{WrongLength, WrongTotal}
-use Rattle.ranges.specs.Refusals.{unless, verdict_of}
+use Rattle.ranges.specs.Refusals.{unless}
 use Rattle.ranges.specs.Spaces.{RangeSpace, Within}
 use Rattle.ranges.specs.Below.{least_by}
 use Rattle.ranges.specs.Weights.{total, range_weight, marked, missed, lowest_missed, range_of, Hits, HitsAll}

@@ -11,7 +11,7 @@ use sheets::reader::{Sheet, read_sheet};
 pub fn refused(e: Refusal) -> anyhow::Error {
     match e {
         Refusal::EmptyRange(_) => "a range holds no point".into(),
-        _ => "a buffer does not fit the job".into(),
+        _ => anyhow!("a buffer does not fit the job"),
     }
 }
 

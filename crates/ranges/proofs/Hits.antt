@@ -1,8 +1,8 @@
 -- The test whether a set hits a range, and the fact.
-use Rattle.std.proofs.Common.{◌≡◌, ℕ, ◌<◌, Bool, true, false, not, Decides}
-use Rattle.std.proofs.lemmas.Bool.{and_from, and_parts, both_ways, not-true, not-false}
+use Rattle.std.proofs.Common.{◌≡◌, ℕ, Bool, true}
+use Rattle.std.proofs.lemmas.Bool.{and_from, and_parts, both_ways, not-true}
 use Rattle.ranges.specs.Spaces.{RangeSpace, Within}
-use Rattle.ranges.specs.Weights.{Hits, HitsAll, hits_at, hit, missed}
+use Rattle.ranges.specs.Weights.{Hits, hits_at, hit, missed}
 use Rattle.ranges.proofs.Searches.{any_decides, any_found}
 
 module _ (S : RangeSpace) (within : Within S) (P : ℕ → Bool) (j : ℕ) where

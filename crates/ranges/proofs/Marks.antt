@@ -1,8 +1,8 @@
 -- Marks written from a test: 1 where it passes, else 0.
-use Rattle.std.proofs.Common.{◌≡◌, ℕ, ◌<◌, Bool, true, false, cond, eqb, ◌⊎◌, List, length, get_or, sym, refl, ap, ◌∙◌, inl, inr, arith}
+use Rattle.std.proofs.Common.{◌≡◌, ℕ, ◌<◌, Bool, true, false, cond, eqb, ◌⊎◌, length, get_or, refl, ap, ◌∙◌, inl, inr, arith}
 use Rattle.std.proofs.lemmas.List.FromFn.{length-map-range_with_len, get_or-map-range_with_len}
 use Rattle.ranges.specs.Below.{count_below}
-use Rattle.ranges.specs.Weights.{marked, chosen, tabulated, marks_of}
+use Rattle.ranges.specs.Weights.{marked, chosen, marks_of}
 use Rattle.ranges.proofs.Sums.{sum_same}
 
 pub bit_is : (b : Bool) → eqb (cond b 1 0) 1 ≡ b

@@ -1,12 +1,12 @@
 -- The laws of runs, by induction over histories.
-use Rattle.std.proofs.Common.{◌≡◌, ℕ, ◌+◌, ◌-◌, ◌*◌, ◌<◌, ◌≤◌, Bool, true, false, cond, not, ◌&&◌, ◌||◌, eqb, ltb, leb, ◌⊎◌, List, [], ◌∷◌, ◌++◌, map, length, take, set, replicate, Some, None, Ok, Option, sym, refl, ap, ◌∙◌, subst, inl, inr, arith}
+use Rattle.std.proofs.Common.{◌≡◌, ℕ, ◌+◌, ◌-◌, ◌<◌, ◌≤◌, true, false, not, ◌||◌, eqb, ltb, leb, ◌⊎◌, List, [], ◌∷◌, ◌++◌, length, take, set, Some, None, Ok, Option, sym, refl, ap, ◌∙◌, subst, inl, inr, arith}
 use Rattle.std.specs.List.{AllByRecursion as All}
 use Rattle.std.proofs.ByRecursion.{All-push, All-set}
-use Rattle.std.proofs.lemmas.List.{length_push, length-map, length-set, map-set, take_more_set, nil_from_length}
+use Rattle.std.proofs.lemmas.List.{length_push, length-map, length-set, map-set, take_more_set}
 use Rattle.std.proofs.lemmas.Bool.{cases_Bool, both_ways, lt-ltb, le-ltb, eqb-true, eqb-false, eq-eqb, ne_eqb, leb-false, not-false, cond-true, cond-false, and_from}
 use Rattle.ranges.specs.declared.number.RangeNumber.{RangeNumber}
 use Rattle.ranges.specs.Spaces.{RangeSpace, Within}
-use Rattle.ranges.specs.Weights.{total, range_weight, heavy, marked, chosen, lowest_missed}
+use Rattle.ranges.specs.Weights.{total, range_weight, chosen, lowest_missed}
 use Rattle.nets.specs.Finders.{Net}
 use Rattle.nets.specs.Verifiers.{Judged}
 use Rattle.guesses.specs.declared.book.Verdict.{Verdict}
@@ -27,13 +27,13 @@ use Rattle.runs.specs.declared.state.OpenGuess.{OpenGuess}
 use Rattle.runs.specs.declared.state.State.{State}
 use Rattle.ranges.specs.declared.refusal.Refusal.TheVariants.{RunBegun, RunBlank, OtherSpace, WrongLength, GuessOpen, GuessOutOfRange, GuessNotAboveFloor, BookFull, LedgerLength, NoGuessOpen}
 use Rattle.ranges.specs.Refusals.{unless}
-use Rattle.ranges.proofs.Checks.{unless_ok, guess_inside, neither_other}
+use Rattle.ranges.proofs.Checks.{unless_ok}
 use Rattle.runs.specs.declared.state.Phase.{Phase}
 use Rattle.runs.specs.declared.state.Phase.TheVariants.{Blank, Idle, Guessing}
-use Rattle.runs.specs.Runs.{Desk, is_blank, is_guessing, guess_of, line_of, blank_state, empty_check, begin_check, begun_state, other_space, open_check, room_check, open_state, round_check, round_desk, closed_state, miss_state, rules_out, cleared, give_up_check, gave_up_state}
+use Rattle.runs.specs.Runs.{Desk, is_blank, is_guessing, guess_of, line_of, blank_state, empty_check, begin_check, begun_state, other_space, open_check, open_state, round_desk, rules_out, cleared, give_up_check, gave_up_state}
 use Rattle.runs.proofs.Rounds.{Passed, passed, missed_light}
 use Rattle.runs.proofs.Openings.{open_ready}
-use Rattle.runs.specs.Histories.{Event, begun, opened, judged, gave_up, refused, Step, begins, opens, judges, gives_up, refuses, History, start, next, guess_in, rounds, pushed, doubled_in, missed_none, hit_in, last_verdict, last_line, Fits, RuledRight, HitRight, Lawful, Along}
+use Rattle.runs.specs.Histories.{Event, begun, opened, judged, gave_up, refused, Step, begins, opens, judges, gives_up, refuses, History, start, next, guess_in, rounds, doubled_in, hit_in, last_verdict, last_line, RuledRight, HitRight, Lawful, Along}
 
 -- a guess whose last round reached the limit was hit, or every round missed a range
 abbrev Ended : RangeSpace → List Event → ℕ → Type 0

@@ -1,5 +1,5 @@
 -- An accepted open leaves a guess as every run keeps it.
-use Rattle.std.proofs.Common.{◌≡◌, ℕ, ◌+◌, ◌*◌, ◌^◌, ◌<◌, ◌≤◌, Bool, true, false, not, ◌||◌, eqb, ltb, Ok, sym, refl, ◌∙◌, subst, arith}
+use Rattle.std.proofs.Common.{◌≡◌, ℕ, ◌+◌, ◌*◌, ◌<◌, ◌≤◌, not, ◌||◌, eqb, ltb, Ok, sym, subst, arith}
 use native.Mathlib.Nat.{pow-zero}
 use Rattle.ranges.specs.declared.refusal.Refusal.TheVariants.{RunBlank, OtherSpace, WrongLength, GuessOpen, GuessOutOfRange}
 use Rattle.ranges.specs.Refusals.{unless}

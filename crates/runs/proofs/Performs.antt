@@ -1,5 +1,5 @@
 -- Calls as steps of a history.
-use Rattle.std.proofs.Common.{◌≡◌, ℕ, ◌+◌, ◌<◌, ◌≤◌, Bool, true, false, cond, not, List, [], ◌∷◌, ◌++◌, reverse, length, get_or, take, is_ok, Ok, Err, Option, Result, sym, refl, ap, ◌∙◌, subst, arith}
+use Rattle.std.proofs.Common.{◌≡◌, ℕ, ◌+◌, ◌<◌, Bool, true, false, cond, not, List, [], ◌∷◌, ◌++◌, reverse, length, get_or, take, is_ok, Ok, Err, Option, Result, sym, refl, ap, ◌∙◌, subst, arith}
 use Rattle.std.proofs.lemmas.List.{reverse-append, take_more}
 use Rattle.ranges.specs.declared.refusal.Refusal.{Refusal}
 use Rattle.ledgers.specs.Doublings.{ones}
@@ -9,7 +9,7 @@ use Rattle.nets.specs.Verifiers.{VerifierMeaning, VerifierSound}
 use Rattle.runs.specs.declared.state.State.{State}
 use Rattle.runs.specs.Runs.{Desk, guess_of, accepted, begin_check, begun_state, open_check, open_state, round_check, round_desk, give_up_check, gave_up_state, SomeGuess, FewGuess, FewPoints, Unfinished, GrownTotal}
 use Rattle.runs.specs.declared.call.Call.{Call}
-use Rattle.runs.specs.Histories.{Event, begun, opened, judged, gave_up, refused, Step, begins, opens, judges, gives_up, refuses, History, next, Lawful, Along, RoundDone, Request, to_begin, to_open, to_round, to_give_up, check_of, EventOf, ComesTo, Performed, Plays, AllPerformed, is_refused, accepted_in, request_of, requests}
+use Rattle.runs.specs.Histories.{Event, begun, opened, judged, gave_up, refused, Step, begins, opens, judges, gives_up, refuses, History, next, Lawful, Along, RoundDone, Request, to_begin, to_open, to_round, to_give_up, check_of, ComesTo, Performed, Plays, AllPerformed, is_refused, accepted_in, request_of, requests}
 use Rattle.runs.proofs.Rounds.{guess_small, passed}
 use Rattle.runs.proofs.Laws.{lawful, along}
 

@@ -1,9 +1,9 @@
 -- What a round's checks give, and that a round keeps what every run keeps.
-use Rattle.std.proofs.Common.{◌≡◌, ℕ, ◌+◌, ◌*◌, ◌^◌, ◌<◌, ◌≤◌, Bool, true, false, cond, not, ◌||◌, eqb, ltb, List, length, Some, Ok, Err, Option, Result, sym, refl, ap, ◌∙◌, subst, inl, inr, le_of_lt, arith}
+use Rattle.std.proofs.Common.{◌≡◌, ℕ, ◌+◌, ◌*◌, ◌^◌, ◌<◌, ◌≤◌, true, false, not, ◌||◌, eqb, ltb, List, length, Some, Ok, Err, Option, Result, sym, refl, ◌∙◌, subst, inl, inr, le_of_lt, arith}
 use Rattle.std.proofs.lemmas.Bool.{ltb-false, le-ltb, eq-eqb, ne_eqb, not-false, cases_Bool, cond-true, cond-false, both_ways, eqb-false}
 use Rattle.ranges.specs.declared.number.RangeNumber.{RangeNumber}
 use Rattle.ranges.specs.declared.refusal.Refusal.{Refusal}
-use Rattle.ranges.specs.declared.refusal.Refusal.TheVariants.{RunBlank, OtherSpace, WrongLength, NoGuessOpen, LedgerLength, ShortScratch, WrongTotal, GuessOutOfRange}
+use Rattle.ranges.specs.declared.refusal.Refusal.TheVariants.{RunBlank, OtherSpace, WrongLength, NoGuessOpen, LedgerLength, ShortScratch, WrongTotal}
 use Rattle.ranges.specs.Refusals.{unless}
 use Rattle.ranges.specs.Spaces.{RangeSpace, Within}
 use Rattle.ranges.specs.Weights.{total, range_weight, range_of, heavy, marked, Hits}
@@ -16,7 +16,7 @@ use Rattle.ledgers.specs.Doublings.{Grown}
 use Rattle.ledgers.proofs.Doublings.{grown_once}
 use Rattle.runs.specs.declared.state.OpenGuess.{OpenGuess}
 use Rattle.runs.specs.declared.state.State.{State}
-use Rattle.runs.specs.Runs.{is_blank, is_guessing, guess_of, other_space, buffer_check, round_check, or_guess, miss_state, rules_out, Ready, SomeGuess, FewGuess, FewPoints, Unfinished, GrownTotal}
+use Rattle.runs.specs.Runs.{is_blank, is_guessing, guess_of, other_space, round_check, or_guess, miss_state, rules_out, Ready, SomeGuess, FewGuess, FewPoints, Unfinished, GrownTotal}
 use Rattle.runs.proofs.Openings.{Kept}
 
 pub or_guess_err : (x : Result Unit Refusal) (g : OpenGuess) (e : Refusal) → Err e ≡ or_guess x g → Err e ≡ x

@@ -11,10 +11,9 @@ use Rattle.nets.specs.Verifiers.{VerifierMeaning}
 use Rattle.guesses.specs.declared.book.Verdict.{Verdict}
 use Rattle.guesses.specs.declared.book.Verdict.TheVariants.{Open, Hit, RuledOut, GivenUp}
 use Rattle.guesses.specs.declared.book.GuessLine.{GuessLine}
-use Rattle.guesses.specs.declared.book.Book.{Book}
 use Rattle.guesses.specs.Books.{book_lines, empty_book, book_added, book_rewritten}
 use Rattle.guesses.specs.Limits.{limit_of}
-use Rattle.ledgers.specs.Doublings.{doubled, ones, Grown}
+use Rattle.ledgers.specs.Doublings.{doubled, Grown}
 use Rattle.runs.specs.declared.state.OpenGuess.{OpenGuess}
 use Rattle.runs.specs.declared.state.Phase.{Phase}
 use Rattle.runs.specs.declared.state.Phase.TheVariants.{Blank, Idle, Guessing}

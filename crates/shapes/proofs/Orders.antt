@@ -1,13 +1,12 @@
 -- Strips are in order: since the points ascend, those before an edge stand in front.
-use Rattle.std.proofs.Common.{◌≡◌, ℕ, zero, suc, ◌+◌, ◌<◌, ◌≤◌, Bool, true, false, cond, ◌&&◌, ltb, leb, List, length, get_or, ℤ, Some, None, sym, refl, ap, ◌∙◌, inl, inr, eq-or-lt_of_le, add-one, arith}
+use Rattle.std.proofs.Common.{◌≡◌, ℕ, zero, suc, ◌+◌, ◌<◌, ◌≤◌, true, false, ◌&&◌, ltb, leb, List, length, get_or, ℤ, Some, None, sym, ap, ◌∙◌, inl, inr, eq-or-lt_of_le, add-one, arith}
 use lib.Signed.{le_z, lt_z}
 use Rattle.std.proofs.lemmas.Int.{ints}
 use Rattle.std.proofs.lemmas.Bool.{cases_Bool, cases_lt, both_ways, cond-true, cond-false, lt-ltb, le-ltb, and_left, and_right}
 use Rattle.std.proofs.lemmas.Bool.Decides.{nat_tests}
-use Rattle.ranges.specs.Below.{count_below}
 use Rattle.ranges.specs.Spaces.{Ordered}
 use Rattle.ranges.proofs.Searches.{any_absent}
-use Rattle.ranges.proofs.Sums.{count_front, front_count, count_le}
+use Rattle.ranges.proofs.Sums.{front_count, count_le}
 use Rattle.shapes.specs.declared.strip_range.StripPoint.{StripPoint}
 use Rattle.shapes.specs.declared.strip_range.StripRange.{StripRange}
 use Rattle.shapes.specs.declared.strip_range.Edge.{Edge}

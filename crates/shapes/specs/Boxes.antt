@@ -1,5 +1,5 @@
 -- The space of boxes: what its lists mean and when they are refused.
-use Rattle.std.specs.Prelude.{◌≡◌, ℕ, Bool, cond, ◌&&◌, ◌||◌, List, length, pos, is_ok, Ok, Err, Result, int_lt, nat_lt, slice_index_or}
+use Rattle.std.specs.Prelude.{Bool, cond, ◌&&◌, ◌||◌, List, length, pos, is_ok, Ok, Result, int_lt, nat_lt, slice_index_or}
 use Rattle.ranges.specs.declared.refusal.Refusal.{Refusal}
 use Rattle.ranges.specs.declared.refusal.Refusal.TheVariants.{CountAboveLimit, CoordinateBeyondLimits, Reversed}
 use Rattle.ranges.specs.Refusals.{unless}

@@ -1,5 +1,5 @@
 -- Coordinates: whole numbers of 0.01 mm from −1,000,000 to 1,000,000; and spaces made of lists.
-use Rattle.std.specs.Prelude.{ℕ, Bool, true, false, ◌&&◌, ◌||◌, List, [], ◌∷◌, ℤ, pos, negsuc, int_le, int_lt, nat_lt}
+use Rattle.std.specs.Prelude.{ℕ, Bool, false, ◌&&◌, ◌||◌, List, [], ◌∷◌, ℤ, pos, negsuc, int_le, int_lt, nat_lt}
 use Rattle.ranges.specs.Spaces.{RangeSpace}
 
 abbrev pub beyond_limits : ℤ → Bool

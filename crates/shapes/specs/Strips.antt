@@ -1,5 +1,5 @@
 -- The space of strips: what its lists mean, when they are refused, and its order.
-use Rattle.std.specs.Prelude.{◌≡◌, ℕ, ◌+◌, ◌-◌, Bool, cond, ◌&&◌, ◌||◌, List, length, get_or, ℤ, pos, is_ok, Some, None, Ok, Err, Option, Result, int_le, int_lt, nat_lt, slice_index_or}
+use Rattle.std.specs.Prelude.{ℕ, ◌+◌, ◌-◌, Bool, cond, ◌||◌, List, length, get_or, ℤ, pos, is_ok, Some, None, Ok, Option, Result, int_le, int_lt, nat_lt, slice_index_or}
 use Rattle.ranges.specs.declared.refusal.Refusal.{Refusal}
 use Rattle.ranges.specs.declared.refusal.Refusal.TheVariants.{CountAboveLimit, CoordinateBeyondLimits, Reversed}
 use Rattle.ranges.specs.Refusals.{unless}

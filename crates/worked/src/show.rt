@@ -1,4 +1,5 @@
 // How the program prints lines of a book, marks and refusals.
+use anyhow::anyhow;
 use guesses::book::{GuessLine, Verdict};
 use ranges::hit::is_marked;
 use ranges::number::PointNumber;
@@ -29,9 +30,9 @@ pub fn show_marks(rt: &HostRuntime, marks: &[u8]) -> anyhow::Result<()> {
 
 pub fn refused(e: Refusal) -> anyhow::Error {
     match e.number() {
-        8 => "a buffer has the wrong length".into(),
-        11 => "the guess is out of range".into(),
-        16 => "the total is too large".into(),
-        _ => "a call was refused".into(),
+        8 => anyhow!("a buffer has the wrong length"),
+        11 => anyhow!("the guess is out of range"),
+        16 => anyhow!("the total is too large"),
+        _ => anyhow!("a call was refused"),
     }
 }

@@ -1,4 +1,4 @@
-use Rattle.std.proofs.Common.{◌≡◌, ℕ, cond, ltb, get_or}
+use Rattle.std.proofs.Common.{◌≡◌, ℕ, cond, ltb}
 use Rattle.ranges.specs.Weights.{weight_at}
 use Rattle.ledgers.specs.Doublings.{capped_at}
 use Rattle.ledgers.proofs.doubling.double_range.Given as goal

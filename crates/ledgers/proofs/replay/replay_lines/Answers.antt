@@ -1,7 +1,6 @@
-use Rattle.std.proofs.Common.{◌≡◌, ℕ, ◌+◌, ◌^◌, ◌≤◌, length, get_or, drop, sym, refl, ap, ◌∙◌, subst, le_of_eq, arith}
+use Rattle.std.proofs.Common.{◌≡◌, ◌+◌, length, get_or, drop, sym, refl, ap, ◌∙◌, subst, le_of_eq}
 use Rattle.std.proofs.lemmas.List.{at_drop_all}
 use Rattle.ranges.specs.Weights.{total}
-use Rattle.ranges.specs.declared.number.RangeNumber.{RangeNumber}
 use Rattle.ledgers.specs.Doublings.{doubled, Grown}
 use Rattle.ledgers.specs.Replays.{replayed, replayed_weights, no_range}
 use Rattle.ledgers.proofs.Doublings.{grown_none, ones_long}

@@ -1,4 +1,4 @@
-use Rattle.std.proofs.Common.{◌≡◌, length, drop}
+use Rattle.std.proofs.Common.{◌≡◌, drop}
 use Rattle.ranges.specs.Weights.{total}
 use Rattle.ledgers.specs.Replays.{replayed, replayed_weights}
 use Rattle.ledgers.specs.Doublings.{Grown}

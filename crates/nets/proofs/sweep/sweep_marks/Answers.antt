@@ -1,4 +1,4 @@
-use Rattle.std.proofs.Common.{◌≡◌, ◌+◌, ◌<◌, ◌≤◌, cond, length, get_or, set, sym, ap, ◌∙◌, arith, Fits}
+use Rattle.std.proofs.Common.{◌≡◌, ◌<◌, cond, length, get_or, set, sym, ap, ◌∙◌, arith}
 use Rattle.std.proofs.lemmas.List.FromFn.{fill_by_all}
 use Rattle.std.proofs.lemmas.List.Edits.{fill_by_more}
 use Rattle.ranges.specs.Below.{count_below}

@@ -1,4 +1,4 @@
-use Rattle.std.proofs.Common.{◌+◌, ◌-◌, ◌/◌, ◌<◌, sym, arith}
+use Rattle.std.proofs.Common.{sym, arith}
 use Rattle.ranges.proofs.Sums.{count_front}
 use Rattle.shapes.specs.Strips.{point_before}
 use Rattle.shapes.proofs.Orders.{before_front, after_back}

@@ -1,4 +1,4 @@
-use Rattle.std.proofs.Common.{◌≡◌, sym, refl}
+use Rattle.std.proofs.Common.{◌≡◌, sym}
 use Rattle.ranges.specs.Weights.{range_of}
 use Rattle.runs.specs.Runs.{Desk, round_desk}
 use Rattle.runs.proofs.Performs.{round_step, step_law, refused_law}

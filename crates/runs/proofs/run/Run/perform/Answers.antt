@@ -1,4 +1,4 @@
-use Rattle.std.proofs.Common.{◌≡◌, sym, refl, ap, subst}
+use Rattle.std.proofs.Common.{sym, ap, subst}
 use Rattle.runs.specs.Runs.{Desk}
 use Rattle.runs.specs.Histories.{Request, Performed, request_of}
 use Rattle.runs.proofs.Performs.{begin_performed, open_performed, give_up_performed, round_performed}

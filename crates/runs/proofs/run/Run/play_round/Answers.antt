@@ -1,4 +1,4 @@
-use Rattle.std.proofs.Common.{◌≡◌, ℕ, ◌*◌, ◌≤◌, sym, refl, ap, ◌∙◌, subst, arith}
+use Rattle.std.proofs.Common.{◌*◌, sym, refl, ap, subst, arith}
 use Rattle.nets.specs.Finders.{Asked}
 use Rattle.ledgers.specs.Doublings.{Grown}
 use Rattle.runs.specs.declared.state.OpenGuess.{OpenGuess}
