@@ -1,12 +1,11 @@
 -- Every call that place makes is accepted.
-use Rattle.std.proofs.Common.{◌≡◌, ℕ, ◌+◌, ◌*◌, ◌<◌, ◌≤◌, Bool, true, false, not, ◌||◌, eqb, ltb, leb, List, length, Ok, sym, refl, ap, ◌∙◌, subst, arith}
+use Rattle.std.proofs.Common.{◌≡◌, ℕ, ◌<◌, ◌≤◌, true, false, not, ◌||◌, leb, length, Ok, refl, ap, ◌∙◌, arith}
 use Rattle.std.proofs.lemmas.Bool.{cond-false, eq-eqb, ne_eqb, le-ltb}
-use Rattle.ranges.specs.Spaces.{RangeSpace, Within}
+use Rattle.ranges.specs.Spaces.{RangeSpace}
 use Rattle.ranges.specs.Weights.{total}
 use Rattle.guesses.specs.Books.{book_lines}
 use Rattle.guesses.specs.Limits.{limit_of}
 use Rattle.guesses.proofs.Limits.{limit_le}
-use Rattle.runs.specs.declared.state.State.{State}
 use Rattle.runs.specs.declared.state.Phase.{Phase}
 use Rattle.runs.specs.declared.state.Phase.TheVariants.{Blank, Idle, Guessing}
 use Rattle.runs.specs.Runs.{Desk, is_blank, is_guessing, guess_of, other_space, round_check, open_check, SomeGuess, FewGuess, FewPoints}

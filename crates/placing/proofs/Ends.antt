@@ -1,27 +1,25 @@
 -- The end of a placement: its sheet, its numbers, and what it is worth.
 use Rattle.std.proofs.Common.{◌≡◌, ℕ, ◌+◌, ◌*◌, ◌<◌, ◌≤◌, Bool, true, false, cond, not, ◌||◌, eqb, ltb, List, [], ◌∷◌, ◌++◌, length, take, drop, replicate, Some, None, Ok, Err, Option, Result, sym, refl, ap, ◌∙◌, subst, inl, inr, arith, length-append, take-append-drop}
 use Rattle.std.proofs.lemmas.List.{length-take-le, length-replicate, get_or-replicate}
-use Rattle.std.proofs.lemmas.Bool.{cases_lt, cond-true, ltb-false, both_ways, or_parts, eqb-true, eq-eqb}
+use Rattle.std.proofs.lemmas.Bool.{cases_lt, cond-true, ltb-false, both_ways, eq-eqb}
 use Rattle.ranges.specs.declared.number.RangeNumber.{RangeNumber}
 use Rattle.ranges.specs.declared.refusal.Refusal.{Refusal}
 use Rattle.ranges.specs.declared.refusal.Refusal.TheVariants.{WrongLength, LedgerLength, ShortScratch, ShortBuffer}
 use Rattle.ranges.specs.Refusals.{unless}
 use Rattle.ranges.specs.Spaces.{RangeSpace, Within}
 use Rattle.ranges.specs.Below.{count_below}
-use Rattle.ranges.specs.Weights.{marked, chosen, lowest_missed, Hits, HitsAll}
+use Rattle.ranges.specs.Weights.{marked, chosen, lowest_missed, HitsAll}
 use Rattle.ranges.proofs.Checks.{unless_ok, neither_other}
 use Rattle.ranges.proofs.Sums.{sum_part, sum_zero}
 use Rattle.nets.specs.Finders.{FinderMeaning}
 use Rattle.nets.specs.Verifiers.{VerifierMeaning}
-use Rattle.guesses.specs.declared.book.Verdict.TheVariants.{Hit}
 use Rattle.guesses.specs.declared.book.GuessLine.{GuessLine}
 use Rattle.guesses.specs.Books.{book_lines}
 use Rattle.guesses.specs.Limits.{limit_of}
 use Rattle.ledgers.specs.Doublings.{NeedsMore}
 use Rattle.runs.specs.declared.state.State.{State}
-use Rattle.runs.specs.declared.state.Phase.TheVariants.{Idle}
 use Rattle.runs.specs.Runs.{Desk, blank_state, begun_state, empty_check, begin_check, is_guessing, guess_of, line_of}
-use Rattle.runs.specs.Histories.{Event, begun, judged, Step, judges, begins, History, Along, Lawful, HitRight, guess_in, hit_in, doubled_in, last_line, last_verdict}
+use Rattle.runs.specs.Histories.{Event, begun, judged, Step, judges, begins, Lawful, HitRight, guess_in, hit_in, doubled_in, last_line, last_verdict}
 use Rattle.runs.proofs.Laws.{lawful, along}
 use Rattle.runs.proofs.Rounds.{passed}
 use Rattle.sheets.specs.declared.writer.SheetWriter.{SheetWriter}
@@ -32,9 +30,9 @@ use Rattle.sheets.specs.Writing.{begun as begunWriter, Written, close_answer, en
 use Rattle.sheets.specs.RoundTrip.{AllReadBack, ReadsBack}
 use Rattle.sheets.proofs.ReadBack.{length_book, length_numbers}
 use Rattle.sheets.proofs.Points.{length_chosen_le}
-use Rattle.placing.specs.Placements.{Way, here, on, next_guess, all_rounds, ledgers_in, place_check, bare_first, clean_marks, Finished, placed_sheet, Placement, Worth, Replays}
-use Rattle.placing.specs.Playing.{Fitted, Room, Past, Ready, Story, Ahead, Done, Placeable, points_in}
-use Rattle.placing.proofs.Openings.{way_history, all_hit}
+use Rattle.placing.specs.Placements.{Way, here, on, ledgers_in, place_check, bare_first, clean_marks, Finished, placed_sheet, Placement, Worth}
+use Rattle.placing.specs.Playing.{Ready, Story, Ahead, Placeable, points_in}
+use Rattle.placing.proofs.Openings.{way_history}
 use Rattle.placing.proofs.Stories.{put_rest, rest_on}
 
 -- an accepted close answers where the sheet ends

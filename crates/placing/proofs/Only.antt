@@ -1,7 +1,6 @@
 -- With one net and one answer for each question, there is just one placement.
-use Rattle.std.proofs.Common.{◌≡◌, ℕ, suc, ◌+◌, ◌<◌, ◌≤◌, Bool, true, false, not, ◌⊎◌, List, [], ◌∷◌, ◌++◌, length, drop, Some, None, Ok, Option, sym, refl, ap, ◌∙◌, subst, inl, inr, arith}
+use Rattle.std.proofs.Common.{◌≡◌, ℕ, ◌<◌, true, false, not, ◌⊎◌, List, ◌∷◌, ◌++◌, length, drop, Some, None, Option, sym, refl, ap, ◌∙◌, subst, inl, inr, arith}
 use Rattle.std.proofs.lemmas.Bool.{both_ways, not-false, cases_lt}
-use Rattle.ranges.specs.declared.number.RangeNumber.{RangeNumber}
 use Rattle.ranges.specs.declared.refusal.Refusal.TheVariants.{RunBegun, RunBlank, OtherSpace, WrongLength, GuessOpen, GuessOutOfRange}
 use Rattle.ranges.specs.Refusals.{unless}
 use Rattle.ranges.specs.Spaces.{RangeSpace}
@@ -13,9 +12,9 @@ use Rattle.guesses.specs.Limits.{limit_of}
 use Rattle.runs.specs.declared.state.State.{State}
 use Rattle.runs.specs.declared.state.Phase.{Phase}
 use Rattle.runs.specs.declared.state.Phase.TheVariants.{Blank, Idle, Guessing}
-use Rattle.runs.specs.Runs.{Desk, blank_state, is_blank, is_guessing, guess_of, other_space, empty_check, begin_check, begun_state, open_check, room_check, round_desk}
-use Rattle.runs.specs.Histories.{Event, begun, opened, judged, gave_up, refused, Step, begins, opens, judges, gives_up, refuses, hit_in}
-use Rattle.placing.specs.Placements.{Turn, Way, here, on, all_rounds, Finished, placed_sheet, Placement, Placed, Buffers, desk_of, OneNet, OneAnswer}
+use Rattle.runs.specs.Runs.{Desk, blank_state, is_blank, is_guessing, guess_of, other_space, empty_check, begun_state, room_check, round_desk}
+use Rattle.runs.specs.Histories.{Event, begun, opened, judged, gave_up, refused, Step, begins, opens, hit_in}
+use Rattle.placing.specs.Placements.{Turn, Way, here, on, all_rounds, Finished, placed_sheet, Placed, Buffers, OneNet, OneAnswer}
 use Rattle.placing.proofs.Openings.{open_desk}
 use Rattle.placing.proofs.Ends.{step_open}
 

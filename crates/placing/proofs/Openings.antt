@@ -1,5 +1,5 @@
 -- Opening a guess by the schedule, and what its course comes to.
-use Rattle.std.proofs.Common.{◌≡◌, ℕ, ◌+◌, ◌*◌, ◌<◌, ◌≤◌, Bool, true, false, not, List, [], ◌∷◌, ◌++◌, length, Some, None, Ok, sym, refl, ap, ◌∙◌, subst, inl, inr, arith}
+use Rattle.std.proofs.Common.{◌≡◌, ℕ, ◌+◌, ◌<◌, true, false, List, [], ◌∷◌, length, None, Ok, sym, refl, ap, ◌∙◌, subst, arith}
 use Rattle.std.proofs.lemmas.List.{length_push}
 use Rattle.std.proofs.lemmas.Bool.{both_ways, not-false}
 use Rattle.ranges.specs.Spaces.{RangeSpace, Within}
@@ -11,17 +11,16 @@ use Rattle.ranges.proofs.Sums.{count_front}
 use Rattle.nets.specs.Finders.{FinderMeaning}
 use Rattle.nets.specs.Verifiers.{VerifierMeaning}
 use Rattle.guesses.specs.declared.book.Verdict.TheVariants.{Open}
-use Rattle.guesses.specs.Books.{book_lines, book_added}
+use Rattle.guesses.specs.Books.{book_lines}
 use Rattle.guesses.specs.Limits.{limit_of}
 use Rattle.guesses.proofs.Books.{added_lines, added_whole}
 use Rattle.ledgers.specs.Doublings.{ones, NeedsMore}
 use Rattle.ledgers.proofs.Doublings.{ones_long, total_ones}
 use Rattle.runs.specs.declared.state.OpenGuess.{OpenGuess}
-use Rattle.runs.specs.declared.state.Phase.{Phase}
 use Rattle.runs.specs.declared.state.Phase.TheVariants.{Idle, Guessing}
 use Rattle.runs.specs.Runs.{Desk, is_guessing, blank_state, open_check, open_state, line_of}
-use Rattle.runs.specs.Histories.{Event, opened, judged, Step, opens, History, start, next, guess_in, doubled_in, hit_in}
-use Rattle.placing.specs.Placements.{Way, here, on, next_guess, all_rounds, ranged, ledgers_in}
+use Rattle.runs.specs.Histories.{Event, opened, judged, opens, History, start, next, guess_in, doubled_in, hit_in}
+use Rattle.placing.specs.Placements.{Way, here, on, next_guess, ranged, ledgers_in}
 use Rattle.placing.specs.Playing.{Fitted, Stands, still_open, was_hit, was_ruled, Course}
 
 -- a way from a blank run is a history

@@ -1,14 +1,12 @@
 -- A round takes a guess one round further on its course.
-use Rattle.std.proofs.Common.{◌≡◌, ℕ, ◌+◌, ◌-◌, ◌*◌, ◌<◌, ◌≤◌, Bool, true, false, cond, not, eqb, ◌⊎◌, List, [], ◌∷◌, ◌++◌, length, drop, set, replicate, Some, None, Ok, Option, sym, refl, ap, ◌∙◌, subst, inl, inr, arith, length-append}
+use Rattle.std.proofs.Common.{◌≡◌, ℕ, ◌+◌, ◌-◌, ◌*◌, ◌<◌, ◌≤◌, true, ◌⊎◌, List, [], ◌∷◌, ◌++◌, length, drop, set, replicate, Some, None, Ok, Option, sym, refl, ap, ◌∙◌, subst, inl, inr, arith, length-append}
 use Rattle.std.proofs.lemmas.List.{length_push, length-set, length-drop, length-replicate}
 use Rattle.std.proofs.lemmas.Bool.{cases_Bool, cond-true, cond-false, both_ways, eqb-true, eqb-false, eq-eqb, ne_eqb}
 use Rattle.ranges.specs.declared.number.RangeNumber.{RangeNumber}
 use Rattle.ranges.specs.Spaces.{RangeSpace, Within}
-use Rattle.ranges.specs.Weights.{total, range_weight, chosen}
+use Rattle.ranges.specs.Weights.{range_weight}
 use Rattle.nets.specs.Finders.{FinderMeaning, FinderSound, Asked}
 use Rattle.nets.specs.Verifiers.{VerifierMeaning, VerifierSound}
-use Rattle.guesses.specs.declared.book.Verdict.{Verdict}
-use Rattle.guesses.specs.declared.book.Verdict.TheVariants.{Open, Hit, RuledOut}
 use Rattle.guesses.specs.declared.book.GuessLine.{GuessLine}
 use Rattle.guesses.specs.declared.book.Book.{Book}
 use Rattle.guesses.specs.Books.{book_lines, book_rewritten}
@@ -20,12 +18,12 @@ use Rattle.ledgers.proofs.Doublings.{doubled_long, total_doubled}
 use Rattle.runs.specs.declared.state.OpenGuess.{OpenGuess}
 use Rattle.runs.specs.declared.state.State.{State}
 use Rattle.runs.specs.declared.state.Phase.{Phase}
-use Rattle.runs.specs.declared.state.Phase.TheVariants.{Blank, Idle, Guessing}
-use Rattle.runs.specs.Runs.{Desk, is_guessing, guess_of, line_of, round_check, round_desk, rules_out, miss_state, cleared, SomeGuess, FewGuess, FewPoints, Unfinished, GrownTotal}
-use Rattle.runs.specs.Histories.{Event, judged, doubled_in, guess_in, RoundDone}
+use Rattle.runs.specs.declared.state.Phase.TheVariants.{Idle, Guessing}
+use Rattle.runs.specs.Runs.{Desk, is_guessing, guess_of, round_check, round_desk, rules_out, miss_state, cleared, SomeGuess, FewGuess, FewPoints, Unfinished, GrownTotal}
+use Rattle.runs.specs.Histories.{Event, judged, doubled_in, RoundDone}
 use Rattle.runs.proofs.Performs.{round_step}
 use Rattle.runs.proofs.Rounds.{guess_small}
-use Rattle.placing.specs.Placements.{Way, on, ledgers_in, with_ledger, ranged, all_rounds}
+use Rattle.placing.specs.Placements.{Way, on, ledgers_in, with_ledger, ranged}
 use Rattle.placing.specs.Playing.{Fitted, Stands, still_open, was_hit, was_ruled, Course, Counted, turns_left}
 
 -- an open guess, by its phase

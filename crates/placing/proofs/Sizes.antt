@@ -1,6 +1,5 @@
 -- The sizes that place asks for suffice.
-use Rattle.std.proofs.Common.{◌≡◌, ℕ, suc, ◌+◌, ◌*◌, ◌^◌, ◌<◌, ◌≤◌, min, ◌⊎◌, sym, refl, ap, subst, inl, inr, mul-le-mul_left, pow-suc, add-one, arith, pow_mono}
-use native.Mathlib.Nat.{min-eq_left}
+use Rattle.std.proofs.Common.{◌≡◌, ℕ, ◌+◌, ◌*◌, ◌^◌, ◌<◌, ◌≤◌, sym, ap, subst, inl, inr, pow-suc, add-one, arith, pow_mono}
 use Rattle.std.proofs.lemmas.Bool.{cases_lt}
 use Rattle.guesses.specs.Limits.{limit_of, doublings_of}
 use Rattle.guesses.proofs.Sections.{sections_fit, doublings_half}

@@ -1,11 +1,10 @@
 -- A guess played to its verdict, as a part of a placement.
-use Rattle.std.proofs.Common.{◌≡◌, ℕ, ◌+◌, ◌*◌, ◌<◌, ◌≤◌, min, Bool, true, false, List, [], ◌∷◌, ◌++◌, map, length, take, drop, Some, None, Ok, sym, refl, ap, ◌∙◌, subst, inl, inr, add_assoc, arith, length-append}
-use Rattle.std.specs.List.{AllByRecursion as All}
+use Rattle.std.proofs.Common.{◌≡◌, ℕ, ◌+◌, ◌*◌, ◌<◌, ◌≤◌, min, false, List, [], ◌∷◌, ◌++◌, length, take, drop, Ok, sym, refl, ap, ◌∙◌, subst, inr, arith, length-append}
+use Rattle.std.specs.List.{AllByRecursion}
 use Rattle.std.proofs.lemmas.List.{take-map, drop-drop, drop_at, append_assoc, length-take-le}
 use Rattle.std.proofs.lemmas.Bool.{cond-false, ne_eqb}
 use Rattle.ranges.specs.declared.number.RangeNumber.{RangeNumber}
 use Rattle.ranges.specs.Spaces.{RangeSpace, Within}
-use Rattle.ranges.specs.Weights.{lowest_missed}
 use Rattle.nets.specs.Finders.{FinderMeaning}
 use Rattle.nets.specs.Verifiers.{VerifierMeaning}
 use Rattle.guesses.specs.Books.{book_lines}
@@ -13,17 +12,16 @@ use Rattle.guesses.specs.Limits.{limit_of}
 use Rattle.guesses.proofs.Limits.{limit_le}
 use Rattle.ledgers.specs.Doublings.{NeedsMore}
 use Rattle.ledgers.specs.Replays.{numbers}
-use Rattle.runs.specs.declared.state.Phase.TheVariants.{Idle}
 use Rattle.runs.specs.Runs.{Desk, blank_state, is_guessing, open_check}
 use Rattle.runs.specs.Histories.{Event, guess_in, hit_in, doubled_in, Lawful}
 use Rattle.runs.proofs.Laws.{lawful}
 use Rattle.sheets.specs.declared.writer.SheetWriter.{SheetWriter}
 use Rattle.sheets.specs.Bytes.{put}
-use Rattle.sheets.specs.Sheets.{Section, section_bytes, section_length, last_guess}
+use Rattle.sheets.specs.Sheets.{Section, section_bytes, last_guess}
 use Rattle.sheets.specs.Writing.{Written, AddKeeps, next_writer}
 use Rattle.sheets.proofs.Written.{length_section}
-use Rattle.placing.specs.Placements.{Way, next_guess, all_rounds, ranged, ledgers_in, Replays}
-use Rattle.placing.specs.Playing.{Fitted, Course, Courses, Ruled, Room, Past, Ready, Story, Ahead, Done, Settled, Verdict, following}
+use Rattle.placing.specs.Placements.{Way, next_guess, ranged, ledgers_in, Replays}
+use Rattle.placing.specs.Playing.{Fitted, Course, Courses, Ruled, Ready, Story, Settled, Verdict, following}
 use Rattle.placing.proofs.Sizes.{ruled_small, room_small, room_next}
 use Rattle.placing.proofs.Accepts.{open_accepted}
 use Rattle.placing.proofs.Openings.{way_history, open_desk, open_course, WasRuled, WasHit, by_floor, by_no_floor, all_hit, below_all}
@@ -146,7 +144,7 @@ module _ (F : FinderMeaning) (V : VerifierMeaning) (S : RangeSpace) (k : ℕ) (d
                 floor_is = raised ∙ sym (ap last_guess ruled.ledgers);
                 written = subst (Written w' sheet') (sym sections_are) (keeps (ledgers_in S.points es) story.written);
                 rest = ap (λ n. drop n sheet') end ∙ ap (drop (w.len + length bs)) bytes-are ∙ put_rest sheet w.len bs inside ∙ rest_on sheet sheet₀ w.len (length bs) story.rest ∙ ap (λ n. drop n sheet₀) (sym end);
-                replays = subst (All (Replays S)) (sym sections_are) (laws.certified k section.lines played.guess ruled.full numbers_are, story.replays);
+                replays = subst (AllByRecursion (Replays S)) (sym sections_are) (laws.certified k section.lines played.guess ruled.full numbers_are, story.replays);
               } in
               ((λ _. (played.events, now, next_is, ruled.unhit, played.book)), (λ other. absurd (other raised)))
 
@@ -171,6 +169,6 @@ module _ (F : FinderMeaning) (V : VerifierMeaning) (S : RangeSpace) (k : ℕ) (d
               floor_is = hit_now.same_floor ∙ story.floor_is ∙ ap last_guess (sym same);
               written = subst (Written w sheet) (sym same) story.written;
               rest = story.rest;
-              replays = subst (All (Replays S)) (sym same) story.replays;
+              replays = subst (AllByRecursion (Replays S)) (sym same) story.replays;
             } in
             ((λ e. absurd (other e)), (λ _. (played.events, now, (k, hit_now.bound, hit_now.net, hit_now.earlier, played.guess, hit_now.is, hit_now.marks))))

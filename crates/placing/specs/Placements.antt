@@ -1,6 +1,6 @@
 -- A placement: the calls that place makes on a blank run, and what they leave.
-use Rattle.std.specs.Prelude.{◌≡◌, ℕ, ◌+◌, ◌*◌, ◌<◌, ◌≤◌, min, Bool, true, false, cond, not, ◌||◌, List, [], ◌∷◌, ◌++◌, map, length, take, drop, replicate, Some, None, Ok, Err, Option, Result, ◌==◌, nat_lt}
-use Rattle.std.specs.List.{AllByRecursion as All}
+use Rattle.std.specs.Prelude.{◌≡◌, ℕ, ◌+◌, ◌*◌, ◌<◌, ◌≤◌, min, true, false, cond, not, ◌||◌, List, [], ◌∷◌, ◌++◌, map, length, take, drop, replicate, Some, None, Ok, Err, Option, Result, ◌==◌, nat_lt}
+use Rattle.std.specs.List.{AllByRecursion}
 use Rattle.ranges.specs.declared.number.RangeNumber.{RangeNumber}
 use Rattle.ranges.specs.declared.refusal.Refusal.{Refusal}
 use Rattle.ranges.specs.declared.refusal.Refusal.TheVariants.{EmptyRange, WrongLength, LedgerLength, ShortScratch, ShortBuffer}
@@ -15,8 +15,8 @@ use Rattle.ledgers.specs.Doublings.{NeedsMore}
 use Rattle.ledgers.specs.Replays.{replay_answer}
 use Rattle.ledgers.specs.declared.replay.Replayed.TheVariants.{Accepted}
 use Rattle.runs.specs.declared.state.State.{State}
-use Rattle.runs.specs.Runs.{Desk, blank_state}
-use Rattle.runs.specs.Histories.{Event, begun, opened, judged, gave_up, refused, Step, History, Along, guess_in, doubled_in, hit_in, JudgedBy}
+use Rattle.runs.specs.Runs.{Desk, blank_state, guess_of, round_desk}
+use Rattle.runs.specs.Histories.{Event, begun, opened, judged, gave_up, refused, Step, History, Along, guess_in, doubled_in, hit_in}
 use Rattle.sheets.specs.Sheets.{Section, sheet_bytes}
 use Rattle.sheets.specs.Reading.{told, read_sheet}
 use Rattle.sheets.specs.RoundTrip.{tells_of}
@@ -40,11 +40,13 @@ next_guess n None = 1
 next_guess n (Some k) = min (2 * k) n
 
 -- what may come next: begin at first; a guess by the schedule, while none is hit and where there are ranges;
--- a round with this finder and this verifier; and no other call, and none refused
+-- a round with this finder and this verifier, which clears as much scratch as this finder needs; and no other call, and none refused
 abbrev pub Turn : FinderMeaning → VerifierMeaning → RangeSpace → List Event → Desk → Event → Desk → Type 0
 Turn F V S es d begun d' = es ≡ []
 Turn F V S es d (opened k) d' = (0 < S.ranges) × (hit_in es ≡ false) × (k ≡ next_guess S.points (guess_in es))
-Turn F V S es d (judged b ms o) d' = JudgedBy F V S d (judged b ms o) d'
+Turn F V S es d (judged b ms o) d' =
+    (b ≡ F.bound S.points S.ranges (guess_of d.state.phase).k) × F.nets S (guess_of d.state.phase).k d.weights ms × V.picks S ms d.weights o
+    × (d' ≡ round_desk S (F.need S.points S.ranges) d ms o)
 Turn F V S es d gave_up d' = ⊥
 Turn F V S es d refused d' = ⊥
 
@@ -130,7 +132,7 @@ pub record Worth (F : FinderMeaning) (S : RangeSpace) (d : Desk) (es : List Even
   pub hits : HitsAll S (marked d.marks)
   pub few : (k : ℕ) → guess_in es ≡ Some k → chosen d.marks ≤ F.bound S.points S.ranges k
   pub floor : 0 < S.ranges → NeedsMore S d.state.floor
-  pub replays : All (Replays S) (ledgers_in S.points es)
+  pub replays : AllByRecursion (Replays S) (ledgers_in S.points es)
   pub read : told (read_sheet (take len sheet')) ≡ Ok (tells_of (ledgers_in S.points es) (book_lines d.state.book) d.state.floor d.marks)
 
 -- some history of calls by the schedule leads from this desk to the buffers as they are left, with these four numbers

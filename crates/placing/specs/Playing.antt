@@ -1,6 +1,6 @@
 -- A placement on its way: what holds between its calls.
-use Rattle.std.specs.Prelude.{◌≡◌, ℕ, ◌+◌, ◌-◌, ◌*◌, ◌^◌, ◌<◌, ◌≤◌, min, Bool, true, false, cond, ◌⊎◌, List, ◌∷◌, length, drop, Some, None, Option, ◌==◌, ◌≢◌}
-use Rattle.std.specs.List.{AllByRecursion as All}
+use Rattle.std.specs.Prelude.{◌≡◌, ℕ, ◌+◌, ◌-◌, ◌*◌, ◌^◌, ◌<◌, ◌≤◌, min, true, false, cond, ◌⊎◌, List, ◌∷◌, length, drop, Some, None, Option, ◌==◌, ◌≢◌}
+use Rattle.std.specs.List.{AllByRecursion}
 use Rattle.ranges.specs.Spaces.{RangeSpace}
 use Rattle.ranges.specs.Weights.{total, lowest_missed, chosen}
 use Rattle.nets.specs.Finders.{FinderMeaning}
@@ -11,7 +11,7 @@ use Rattle.guesses.specs.Limits.{limit_of, doublings_of}
 use Rattle.runs.specs.declared.state.OpenGuess.{OpenGuess}
 use Rattle.runs.specs.declared.state.Phase.TheVariants.{Idle, Guessing}
 use Rattle.runs.specs.Runs.{Desk, blank_state, is_guessing, guess_of}
-use Rattle.runs.specs.Histories.{Event, opened, judged, guess_in, doubled_in, hit_in}
+use Rattle.runs.specs.Histories.{Event, judged, guess_in, doubled_in, hit_in}
 use Rattle.sheets.specs.declared.writer.SheetWriter.{SheetWriter}
 use Rattle.sheets.specs.Sheets.{last_guess, hit_points}
 use Rattle.sheets.specs.Writing.{Written}
@@ -99,7 +99,7 @@ pub record Story (F : FinderMeaning) (V : VerifierMeaning) (S : RangeSpace) (fro
   pub floor_is : d.state.floor ≡ last_guess (ledgers_in S.points es)
   pub written : Written w sheet (ledgers_in S.points es)
   pub rest : drop w.len sheet ≡ drop w.len sheet₀
-  pub replays : All (Replays S) (ledgers_in S.points es)
+  pub replays : AllByRecursion (Replays S) (ledgers_in S.points es)
 
 -- guess k is next
 abbrev pub Ahead : FinderMeaning → VerifierMeaning → RangeSpace → Desk → List ℕ → ℕ → ℕ → Desk → SheetWriter → List ℕ → Type 0

@@ -1,6 +1,6 @@
 -- The laws of runs, by induction over histories.
 use Rattle.std.proofs.Common.{◌≡◌, ℕ, ◌+◌, ◌-◌, ◌<◌, ◌≤◌, true, false, not, ◌||◌, eqb, ltb, leb, ◌⊎◌, List, [], ◌∷◌, ◌++◌, length, take, set, Some, None, Ok, Option, sym, refl, ap, ◌∙◌, subst, inl, inr, arith}
-use Rattle.std.specs.List.{AllByRecursion as All}
+use Rattle.std.specs.List.{AllByRecursion}
 use Rattle.std.proofs.ByRecursion.{All-push, All-set}
 use Rattle.std.proofs.lemmas.List.{length_push, length-map, length-set, map-set, take_more_set}
 use Rattle.std.proofs.lemmas.Bool.{cases_Bool, both_ways, lt-ltb, le-ltb, eqb-true, eqb-false, eq-eqb, ne_eqb, leb-false, not-false, cond-true, cond-false, and_from}
@@ -64,7 +64,7 @@ record Kept (S : RangeSpace) (es : List Event) (d : Desk) : Type 0 where
   guessed : (k : ℕ) → guess_in es ≡ Some k → Guessed S es d.state.book k
   playing : is_guessing d.state.phase ≡ true → Playing S es d.weights (guess_of d.state.phase)
   ended : is_guessing d.state.phase ≡ false → (k : ℕ) → guess_in es ≡ Some k → rounds es ≡ limit_of S.points k → Ended S es k
-  ruled : All (RuledRight S) (book_lines d.state.book)
+  ruled : AllByRecursion (RuledRight S) (book_lines d.state.book)
   floor : 0 < d.state.floor → NeedsMore S d.state.floor
 
 no_guess : {A : Type 0} (es : List Event) (k : ℕ) → guess_in es ≡ None → guess_in es ≡ Some k → A
@@ -173,7 +173,7 @@ module _ (S : RangeSpace) (within : Within S) (es : List Event) (d : Desk) (kept
             });
         playing = λ _. record { is = refl; rounds_are = refl; lines_are = refl; weights_are = refl; early = limit_pos S.points k ready.0 few };
         ended = λ f. true_false f;
-        ruled = subst (All (RuledRight S)) (sym lines) (All-push (RuledRight S) (book_lines d.state.book) line kept.ruled (λ f. (let z : ◌≡◌ {A = ℕ} 0 1 = cc in absurd (omega arith))));
+        ruled = subst (AllByRecursion (RuledRight S)) (sym lines) (All-push (RuledRight S) (book_lines d.state.book) line kept.ruled (λ f. (let z : ◌≡◌ {A = ℕ} 0 1 = cc in absurd (omega arith))));
         floor = kept.floor;
       }
 
@@ -188,8 +188,8 @@ module _ (S : RangeSpace) (within : Within S) (es : List Event) (d : Desk) (kept
     now_told : last_line (book_lines (book_rewritten d.state.book (line_of (guess_of d.state.phase).k r v))) ≡ Some (line_of (guess_of d.state.phase).k r v)
     now_told = ap last_line now_lines ∙ last_set (book_lines d.state.book) (line_of (guess_of d.state.phase).k r v) (kept.guessed _ (kept.playing open-now).is).line
 
-    now_ruled : (v ≡ RuledOut → NeedsMore S (guess_of d.state.phase).k) → All (RuledRight S) (book_lines (book_rewritten d.state.book (line_of (guess_of d.state.phase).k r v)))
-    now_ruled right = subst (All (RuledRight S)) (sym now_lines) (All-set (RuledRight S) (book_lines d.state.book) (length (book_lines d.state.book) - 1) (line_of (guess_of d.state.phase).k r v) right kept.ruled)
+    now_ruled : (v ≡ RuledOut → NeedsMore S (guess_of d.state.phase).k) → AllByRecursion (RuledRight S) (book_lines (book_rewritten d.state.book (line_of (guess_of d.state.phase).k r v)))
+    now_ruled right = subst (AllByRecursion (RuledRight S)) (sym now_lines) (All-set (RuledRight S) (book_lines d.state.book) (length (book_lines d.state.book) - 1) (line_of (guess_of d.state.phase).k r v) right kept.ruled)
 
   -- the guess that is played, by its number
   played : (k : ℕ) (open-now : is_guessing d.state.phase ≡ true) → guess_in es ≡ Some k → (guess_of d.state.phase).k ≡ k

@@ -1,7 +1,7 @@
 -- Histories of calls on a run, and the laws that hold of every one.
 use Rattle.std.specs.Prelude.{◌≡◌, ℕ, ◌+◌, ◌-◌, ◌<◌, ◌≤◌, Bool, true, false, cond, List, [], ◌∷◌, ◌++◌, reverse, length, take, Some, None, Ok, Err, Option, Result, ◌==◌}
 use Rattle.ranges.specs.declared.refusal.Refusal.{Refusal}
-use Rattle.std.specs.List.{AllByRecursion as All}
+use Rattle.std.specs.List.{AllByRecursion}
 use Rattle.ranges.specs.declared.number.RangeNumber.{RangeNumber}
 use Rattle.ranges.specs.Spaces.{RangeSpace}
 use Rattle.ranges.specs.Below.{count_below}
@@ -137,7 +137,7 @@ pub record Lawful (S : RangeSpace) (es : List Event) (d : Desk) : Type 0 where
   -- the last line of the book tells of the last guess
   pub told : (k : ℕ) → guess_in es ≡ Some k → last_line (book_lines d.state.book) ≡ Some (line_of k (length (doubled_in es)) (last_verdict (limit_of S.points k) es))
   -- a line says ruled out only where every set that hits all ranges has more points, and so does a floor
-  pub ruled_out : All (RuledRight S) (book_lines d.state.book)
+  pub ruled_out : AllByRecursion (RuledRight S) (book_lines d.state.book)
   pub floor : 0 < d.state.floor → NeedsMore S d.state.floor
   -- a guess that missed a range in each of its limit's rounds is ruled out, and replay accepts its ledger
   pub certified : (k : ℕ) (ledger : List RangeNumber) → guess_in es ≡ Some k → length (doubled_in es) ≡ limit_of S.points k → numbers ledger ≡ doubled_in es

@@ -14,6 +14,14 @@ use Rattle.sheets.specs.Sheets.{Section, section_bytes, section_length, book_byt
 abbrev pub begun : SheetWriter
 begun = record { len = 0; last = no_ledger; guess = 0 }
 
+-- longer than any sheet: only such a writer may be let go
+abbrev pub IsPastEverySheet : SheetWriter → Type 0
+IsPastEverySheet w = 2147483648 < w.len
+
+-- as long as some sheet: so it is with every writer that begin and add make, and none of these may be let go
+abbrev pub IsWithinSheets : SheetWriter → Type 0
+IsWithinSheets w = w.len ≤ 2147483648
+
 -- the buffer is too short for a sheet up to `end`, or such a sheet too long
 abbrev pub no_room : List ℕ → ℕ → Bool
 no_room s end = nat_lt (length s) end || nat_lt 2147483648 end

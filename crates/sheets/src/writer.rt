@@ -3,7 +3,7 @@ ghost use Rattle.std.specs.Prelude.{◌≡◌, ℕ, ◌+◌, ◌<◌, ◌≤◌,
 ghost use Rattle.guesses.specs.Books.{book_lines};
 ghost use Rattle.sheets.specs.Bytes.{put};
 ghost use Rattle.sheets.specs.Sheets.{section_bytes, section_length};
-ghost use Rattle.sheets.specs.Writing.{begun, add_answer, next_writer, added_writer, added_sheet, no_room, end_trailer, end_bytes, end_length, close_answer, closed_sheet, torn_length, torn_sheet, Written, AddKeeps};
+ghost use Rattle.sheets.specs.Writing.{begun, IsPastEverySheet, IsWithinSheets, add_answer, next_writer, added_writer, added_sheet, no_room, end_trailer, end_bytes, end_length, close_answer, closed_sheet, torn_length, torn_sheet, Written, AddKeeps};
 ghost use Rattle.sheets.specs.RoundTrip.{AllReadBack, ClosedReadsBack};
 
 use crate::parts::{count_marked, store_book, store_points, store_section};
@@ -30,9 +30,9 @@ pub struct SheetWriter {
 }
 
 impl Drop for SheetWriter {
-    // Nobody can meet this, so a forgotten sheet is refused before anything runs.
+    // No writer that `begin` and `add` make can meet this, so a forgotten sheet is refused before anything runs.
     fn drop(self)
-        requires { ⊥ }
+        requires { IsPastEverySheet self }
     {
         let SheetWriter {
             len: _,
@@ -53,6 +53,7 @@ impl SheetWriter {
     pub fn begin() -> SheetWriter
         ensures value { result ≡ begun }
         ensures written { (sheet : List ℕ) → Written result sheet [] }
+        ensures held { IsWithinSheets result }
     {
         SheetWriter {
             len: 0,
@@ -76,6 +77,7 @@ impl SheetWriter {
         ensures writer { self.new ≡ added_writer result self.old k lines.now }
         ensures bytes { sheet.new ≡ added_sheet result self.old sheet.old k lines.now }
         ensures written { AddKeeps result self.old sheet.old k lines.now self.new sheet.new }
+        ensures held { IsWithinSheets self.old → IsWithinSheets self.new }
     {
         if k == 0 || k > MOST_POINTS {
             return Err(Refusal::GuessOutOfRange);

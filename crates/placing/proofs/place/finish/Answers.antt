@@ -1,4 +1,4 @@
-use Rattle.std.proofs.Common.{◌≡◌, ℕ, ◌+◌, take, ap, ◌∙◌, subst}
+use Rattle.std.proofs.Common.{◌≡◌, ℕ, ◌+◌, ap, ◌∙◌, subst}
 use Rattle.guesses.specs.declared.book.Book.{Book}
 use Rattle.guesses.specs.Books.{book_lines}
 use Rattle.runs.specs.Histories.{last_line}

@@ -1,4 +1,4 @@
-use Rattle.std.proofs.Common.{◌≡◌, ℕ, ◌+◌, ◌*◌, ◌<◌, ◌≤◌, List, [], ◌∷◌, length, Some, None, sym, refl, ap, ◌∙◌, subst, arith}
+use Rattle.std.proofs.Common.{◌≡◌, ℕ, ◌<◌, [], ◌∷◌, length, sym, refl, ap, ◌∙◌, arith}
 use Rattle.ranges.specs.Weights.{chosen}
 use Rattle.guesses.specs.Books.{book_lines}
 use Rattle.runs.specs.declared.state.State.{State}

@@ -1,5 +1,5 @@
-use Rattle.std.proofs.Common.{◌≡◌, ℕ, true, length, Ok, Err, sym, ◌∙◌, arith}
-use Rattle.runs.specs.Runs.{Desk, is_guessing, round_check}
+use Rattle.std.proofs.Common.{◌≡◌, ℕ, true, sym, ◌∙◌, arith}
+use Rattle.runs.specs.Runs.{Desk, is_guessing}
 use Rattle.placing.proofs.Accepts.{round_accepted}
 use Rattle.placing.proofs.Rounds.{next_fitted, next_counted, next_turns, next_course}
 use Rattle.placing.proofs.play.play_rounds.Goals as goal

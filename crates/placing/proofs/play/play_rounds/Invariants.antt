@@ -1,4 +1,3 @@
-use Rattle.ranges.specs.Spaces.{Within}
 use Rattle.runs.specs.Runs.{Desk}
 use Rattle.placing.specs.Playing.{Fitted, Courses, Counted, turns_left}
 use Rattle.placing.proofs.play.play_rounds.Given as goal
