@@ -1,5 +1,5 @@
 -- The worked cases: limits, a corner of a box, and the web job at guess 1.
-use Rattle.std.specs.Prelude.{◌≡◌, ℕ, true, List, [], ◌∷◌, pos, Some}
+use Rattle.std.specs.Prelude.{◌≡◌, true, List, [], ◌∷◌, pos, Some}
 use Rattle.ranges.specs.Spaces.{RangeSpace}
 use Rattle.ranges.specs.Weights.{marked, lowest_missed}
 use Rattle.shapes.specs.declared.strip_range.StripPoint.{StripPoint}

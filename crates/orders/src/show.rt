@@ -10,7 +10,7 @@ use sheets::reader::{Sheet, read_sheet};
 
 pub fn refused(e: Refusal) -> anyhow::Error {
     match e {
-        Refusal::EmptyRange(_) => "a range holds no point".into(),
+        Refusal::EmptyRange(_) => anyhow!("a range holds no point"),
         _ => anyhow!("a buffer does not fit the job"),
     }
 }

@@ -5,7 +5,7 @@ pub returns : goal.returns
 returns c = record {
   count = refl;
   cases = record {
-    limits = c.worked_limits.ensures.worked;
+    limits = c.limit_cases.ensures.worked;
     corner = refl;
     first_sweep = refl;
     first_miss = (refl, refl);
