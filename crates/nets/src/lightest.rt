@@ -1,5 +1,5 @@
 ghost use Rattle.std.specs.Prelude.{◌≡◌, ◌^◌, ◌≤◌, length};
-ghost use Rattle.ranges.specs.Weights.{total, range_of};
+ghost use Rattle.ranges.specs.Weights.{total, marked, missed, range_of};
 ghost use Rattle.nets.specs.Verifiers.{lightest_missed, lightest_verifier};
 ghost use Rattle.nets.specs.Weighed.{lighter_of};
 ghost use Rattle.nets.specs.Lightness.{lightest_judged};
@@ -41,7 +41,7 @@ fn lightest_missed<S: Space>(s: &S, marks: &[u8], weights: &[u64]) -> Option<Ran
     let mut best: Option<Weighed> = None;
     for j in 0..s.ranges() {
         let range = RangeNumber(j);
-        if !is_hit(s, &Marked(marks), range) {
+        if is_missed(s, marks, range) {
             let weight = range_weight(s, weights, range);
             best = Some(lighter(best, Weighed { range, weight }));
         }
@@ -50,6 +50,12 @@ fn lightest_missed<S: Space>(s: &S, marks: &[u8], weights: &[u64]) -> Option<Ran
         Some(b) => Some(b.range),
         None => None,
     }
+}
+
+fn is_missed<S: Space>(s: &S, marks: &[u8], range: RangeNumber) -> bool
+    ensures { result ≡ missed (S.Space.meaning s.now) (marked marks.now) range.0 }
+{
+    !is_hit(s, &Marked(marks), range)
 }
 
 // The lighter of two ranges, the earlier among equals.

@@ -1,5 +1,6 @@
 ghost use Rattle.std.specs.Prelude.{◌≡◌, ◌+◌, ◌<◌, ◌≤◌, false, length};
 ghost use Rattle.shapes.specs.Strips.{strip_space, strip_check, strip_meaning, falls, descends, point_before, first_point, end_point, count_before, strip_at};
+ghost use Rattle.shapes.specs.declared.strip_range.Edge.TheVariants.{Below, UpTo};
 ghost use Rattle.ranges.specs.Spaces.{Ordered};
 
 use crate::fault::{Beyond, EndsReversed, any_faulty};
@@ -126,6 +127,20 @@ impl<'a> Space for Strips<'a> {
     }
 }
 
+// Before this edge lie the points below A.
+fn opening(strip: StripRange) -> Edge
+    ensures { result ≡ Below strip.a }
+{
+    Edge::Below(strip.a)
+}
+
+// Before this edge lie the points up to B.
+fn closing(strip: StripRange) -> Edge
+    ensures { result ≡ UpTo strip.b }
+{
+    Edge::UpTo(strip.b)
+}
+
 impl<'a> OrderedSpace for Strips<'a> {
     ghost first_of = { λ s j. first_point s.points.now s.strips.now j };
 
@@ -133,14 +148,14 @@ impl<'a> OrderedSpace for Strips<'a> {
 
     fn first(&self, j: RangeNumber) -> u16 {
         match self.strip(j) {
-            Some(strip) => count_before(self.points, Edge::Below(strip.a)),
+            Some(strip) => count_before(self.points, opening(strip)),
             None => 0,
         }
     }
 
     fn end(&self, j: RangeNumber) -> u16 {
         match self.strip(j) {
-            Some(strip) => count_before(self.points, Edge::UpTo(strip.b)),
+            Some(strip) => count_before(self.points, closing(strip)),
             None => 0,
         }
     }

@@ -1,11 +1,8 @@
-use Rattle.std.proofs.Common.{rules, sym, ap, ◌∙◌, w32}
-use Rattle.std.proofs.lemmas.Int.{to_z-of_z}
-use mir.Val.{SFits}
-use Rattle.shapes.specs.Strips.{points_up_to}
+use Rattle.std.proofs.Common.{sym, ap, ◌∙◌}
+use Rattle.shapes.specs.Strips.{count_before, points_up_to}
 use Rattle.shapes.proofs.strips.StripsOrderedSpace.end.Goals as goal
 
 pub returns-in-Some-clause-value : goal.returns-in-Some-clause-value
 returns-in-Some-clause-value c =
-    let fits : SFits w32 c.in-Some.strip.b = search rules in
-    let counted = c.count_before.ensures in
-    simp to_z-of_z at counted ∙ ap (points_up_to c.args.self.now.points.now) (sym c.in-Some.is ∙ c.strip.ensures.value)
+    let points = c.args.self.now.points.now in
+    c.count_before.ensures ∙ ap (count_before points) c.closing.ensures ∙ ap (points_up_to points) (sym c.in-Some.is ∙ c.strip.ensures.value)
