@@ -1,8 +1,8 @@
 -- A replay, one line at a time, and what its acceptance means.
-use Rattle.std.proofs.Common.{◌≡◌, ℕ, ◌+◌, ◌*◌, ◌^◌, ◌<◌, ◌≤◌, Bool, true, false, cond, List, [], ◌∷◌, length, get_or, drop, sym, refl, ◌∙◌, subst, inl, inr, arith}
+use Rattle.std.proofs.Common.{◌≡◌, ℕ, ◌+◌, ◌*◌, ◌^◌, ◌<◌, ◌≤◌, Bool, true, false, cond, ◌&&◌, List, [], ◌∷◌, length, get_or, drop, sym, refl, ap, ◌∙◌, subst, inl, inr, arith}
 use Rattle.std.proofs.lemmas.List.FromFn.{length-map-range_with_len, get_or-map-range_with_len}
 use Rattle.std.proofs.lemmas.List.{at_drop_more, length-map, same_lists}
-use Rattle.std.proofs.lemmas.Bool.{cases_Bool, cond-true, cond-false}
+use Rattle.std.proofs.lemmas.Bool.{cases_Bool, cond-true, cond-false, lt-ltb}
 use Rattle.ranges.specs.declared.number.RangeNumber.{RangeNumber}
 use Rattle.ranges.specs.Spaces.{RangeSpace, Within}
 use Rattle.ranges.specs.Weights.{weight_at, total, capped, range_weight}
@@ -10,7 +10,7 @@ use Rattle.ranges.proofs.Sums.{sum_part}
 use Rattle.guesses.specs.Limits.{limit_of}
 use Rattle.guesses.proofs.Growth.{total_bound}
 use Rattle.ledgers.specs.declared.replay.Replayed.TheVariants.{Accepted, BadLine}
-use Rattle.ledgers.specs.Doublings.{doubled_at, doubled, capped_at, capped_doubled, good, AllGood, ones, NeedsMore, Grown}
+use Rattle.ledgers.specs.Doublings.{doubled_at, doubled, capped_at, capped_doubled, doubled_point_at, doubled_points, capped_point_at, capped_points, good, AllGood, ones, NeedsMore, Grown}
 use Rattle.ledgers.specs.Replays.{numbers, replayed, replayed_weights}
 use Rattle.ledgers.proofs.Doublings.{total_doubled, good_light, grown_once}
 use Rattle.ledgers.proofs.Certificates.{full_ledger}
@@ -23,6 +23,19 @@ uncapped_at false x small = refl
 weight_small : (ws : List ℕ) (p : ℕ) → p < length ws → total ws ≤ 2 ^ 49 → weight_at ws p ≤ 2 ^ 49
 weight_small ws p l small = omega (arith, sum_part (weight_at ws) (length ws) p l)
 
+pub points_uncapped : (n : ℕ) (P : ℕ → Bool) (ws : List ℕ) → length ws ≡ n → total ws ≤ 2 ^ 49 → capped_points n P ws ≡ doubled_points P ws
+points_uncapped n P ws long small =
+    same_lists (capped_points n P ws) (doubled_points P ws)
+    (length-map-range_with_len (capped_point_at n P ws) 0 (length ws) ∙ sym (length-map-range_with_len (doubled_point_at P ws) 0 (length ws)))
+    (λ p d l.
+    let inside : p < length ws = omega (arith, length-map-range_with_len (capped_point_at n P ws) 0 (length ws)) in
+    let below : p < n = omega arith in
+    get_or-map-range_with_len (capped_point_at n P ws) 0 (length ws) p p d inside (omega arith)
+    ∙ ap (λ b. cond (b && P p) (capped (2 * weight_at ws p)) (weight_at ws p)) (lt-ltb p n below)
+    ∙ uncapped_at (P p) (weight_at ws p) (weight_small ws p inside small)
+    ∙ sym (get_or-map-range_with_len (doubled_point_at P ws) 0 (length ws) p p d inside (omega arith)))
+
+-- so of a range's points
 pub uncapped : (S : RangeSpace) (j : ℕ) (ws : List ℕ) → total ws ≤ 2 ^ 49 → capped_doubled S j ws ≡ doubled S j ws
 uncapped S j ws small =
     same_lists (capped_doubled S j ws) (doubled S j ws)

@@ -1,5 +1,5 @@
 -- Doubling a range's weights, and what a list of doubled ranges leaves.
-use Rattle.std.specs.Prelude.{◌≡◌, ℕ, ◌+◌, ◌*◌, ◌^◌, ◌<◌, ◌≤◌, Bool, true, cond, not, ◌&&◌, List, [], ◌∷◌, length, replicate, nat_lt}
+use Rattle.std.specs.Prelude.{◌≡◌, ℕ, ◌+◌, ◌*◌, ◌^◌, ◌<◌, ◌≤◌, Bool, true, cond, not, ◌&&◌, List, [], ◌∷◌, length, replicate, nat_lt, slice_set}
 use Rattle.ranges.specs.Spaces.{RangeSpace}
 use Rattle.ranges.specs.Below.{count_below}
 use Rattle.ranges.specs.Weights.{weight_at, heavy, capped, tabulated, HitsAll}
@@ -17,6 +17,24 @@ capped_at S j ws p = cond (S.holds j p) (capped (2 * weight_at ws p)) (weight_at
 
 abbrev pub capped_doubled : RangeSpace → ℕ → List ℕ → List ℕ
 capped_doubled S j ws = tabulated (capped_at S j ws) (length ws)
+
+-- the weight of each point of a set is doubled
+abbrev pub doubled_point_at : (ℕ → Bool) → List ℕ → ℕ → ℕ
+doubled_point_at P ws p = cond (P p) (2 * weight_at ws p) (weight_at ws p)
+
+abbrev pub doubled_points : (ℕ → Bool) → List ℕ → List ℕ
+doubled_points P ws = tabulated (doubled_point_at P ws) (length ws)
+
+-- the same in 64 bits, of the points below n
+abbrev pub capped_point_at : ℕ → (ℕ → Bool) → List ℕ → ℕ → ℕ
+capped_point_at n P ws p = cond (nat_lt p n && P p) (capped (2 * weight_at ws p)) (weight_at ws p)
+
+abbrev pub capped_points : ℕ → (ℕ → Bool) → List ℕ → List ℕ
+capped_points n P ws = tabulated (capped_point_at n P ws) (length ws)
+
+-- one weight doubled in 64 bits, if there is such a point
+abbrev pub weight_doubled : List ℕ → ℕ → List ℕ
+weight_doubled ws p = cond (nat_lt p (length ws)) (slice_set ws p (capped (2 * weight_at ws p))) ws
 
 -- every weight 1
 abbrev pub ones : ℕ → List ℕ

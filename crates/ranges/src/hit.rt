@@ -20,6 +20,10 @@ pub struct AllPoints;
 #[derive(Clone, Copy)]
 pub struct Marked<'a>(pub &'a [u8]);
 
+// The set of the points that a range holds.
+#[derive(Drop)]
+pub struct HeldBy<'a, S>(pub &'a S, pub RangeNumber);
+
 impl PointSet for AllPoints {
     ghost members = { λ _ _. true };
 
@@ -33,6 +37,14 @@ impl<'a> PointSet for Marked<'a> {
 
     fn contains(&self, p: PointNumber) -> bool {
         is_marked(self.0, p)
+    }
+}
+
+impl<'a, S: Space> PointSet for HeldBy<'a, S> {
+    ghost members = { λ h. (S.Space.meaning h.0.now).holds h.1.0 };
+
+    fn contains(&self, p: PointNumber) -> bool {
+        self.0.holds(self.1, p)
     }
 }
 
