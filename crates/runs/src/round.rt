@@ -1,7 +1,7 @@
 ghost use Rattle.std.specs.Prelude.{◌≡◌, ◌+◌, ◌^◌, ◌<◌, ◌≤◌, true, length, Ok};
 ghost use Rattle.ranges.specs.Spaces.{Within};
 ghost use Rattle.ranges.specs.Weights.{total, range_weight};
-ghost use Rattle.ledgers.specs.Doublings.{doubled};
+ghost use Rattle.ledgers.specs.Doublings.{doubled_points};
 ghost use Rattle.nets.specs.Finders.{find_check};
 ghost use Rattle.guesses.specs.Limits.{limit_of};
 ghost use Rattle.runs.specs.Runs.{SomeGuess, FewGuess, round_check, buffer_check, miss_state, closed_state, rules_out, guess_of, is_guessing, or_guess, cleared, NetAndVerdict};
@@ -9,9 +9,10 @@ ghost use Rattle.runs.specs.Runs.{SomeGuess, FewGuess, round_check, buffer_check
 use crate::state::{OpenGuess, Phase, State};
 use guesses::book::{GuessLine, Verdict};
 use guesses::limit::limit;
-use ledgers::doubling::double_range;
+use ledgers::doubling::double_points;
 use nets::finder::Finder;
 use nets::verifier::Verifier;
+use ranges::hit::PointSet;
 use ranges::number::RangeNumber;
 use ranges::refusal::Refusal;
 use ranges::space::Space;
@@ -156,15 +157,21 @@ fn is_last(n: u16, k: u16, doublings: u16) -> bool
     }
 }
 
-// Doubles the missed range and answers its weight as it stood.
-pub(crate) fn double_missed<S: Space>(s: &S, weights: &mut [u64], j: RangeNumber) -> u64
+// The weight of the missed range as it stands.
+pub(crate) fn missed_weight<S: Space>(s: &S, weights: &[u64], j: RangeNumber) -> u64
+    requires long { length weights.now ≡ (S.Space.meaning s.now).points }
+    requires small { total weights.now ≤ 2 ^ 49 }
+    ensures weight { result ≡ range_weight (S.Space.meaning s.now) weights.now j.0 }
+    ensures small { result ≤ total weights.now }
+{
+    range_weight(s, weights, j)
+}
+
+// Doubles the weight of each point of the set.
+pub(crate) fn double_set<S: Space, P: PointSet>(s: &S, set: &P, weights: &mut [u64])
     requires long { length weights.old ≡ (S.Space.meaning s.now).points }
     requires small { total weights.old ≤ 2 ^ 49 }
-    ensures weight { result ≡ range_weight (S.Space.meaning s.now) weights.old j.0 }
-    ensures weights { weights.new ≡ doubled (S.Space.meaning s.now) j.0 weights.old }
-    ensures small { result ≤ total weights.old }
+    ensures { weights.new ≡ doubled_points (P.PointSet.members set.now) weights.old }
 {
-    let weight = range_weight(s, weights, j);
-    double_range(s, j, weights);
-    weight
+    double_points(s.points(), set, weights);
 }

@@ -7,13 +7,13 @@ ghost use Rattle.runs.specs.Histories.{Event, History, Lawful, RoundDone};
 ghost use Rattle.ranges.specs.Weights.{chosen};
 ghost use Rattle.ranges.specs.Spaces.{Within};
 
-use crate::round::{Lengths, check_round, closed, double_missed, missed, play};
+use crate::round::{Lengths, check_round, closed, double_set, missed, missed_weight, play};
 use crate::state::{OpenGuess, Phase, State};
 use guesses::book::{Book, GuessLine, Verdict};
 use guesses::limit::limit;
 use nets::finder::Finder;
 use nets::verifier::Verifier;
-use ranges::hit::{AllPoints, lowest_missed};
+use ranges::hit::{AllPoints, HeldBy, lowest_missed};
 use ranges::number::RangeNumber;
 use ranges::refusal::Refusal;
 use ranges::space::Space;
@@ -187,7 +187,8 @@ impl Run {
         match judged {
             Some(j) => {
                 ledger[guess.doublings as usize] = j;
-                let weight = double_missed(s, weights, j);
+                let weight = missed_weight(s, weights, j);
+                double_set(s, &HeldBy(s, j), weights);
                 self.state = missed(&self.state, guess, weight);
             }
             None => {

@@ -1,6 +1,6 @@
 use Rattle.std.proofs.Common.{◌≤◌, take}
 use Rattle.runs.specs.Histories.{AllPerformed, requests}
-use Rattle.runs.proofs.run.Run.perform_all.Given as goal
+use Rattle.runs.proofs.run.Run.perform_each.Given as goal
 
 -- the calls so far are performed
 abbrev pub invariant-loop-call : goal.invariant-loop-call

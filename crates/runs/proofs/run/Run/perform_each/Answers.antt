@@ -1,10 +1,9 @@
-use Rattle.std.proofs.Common.{◌≡◌, ℕ, ◌+◌, ◌≤◌, Bool, true, false, cond, List, take, is_ok, sym, ap, ◌∙◌, subst, arith}
+use Rattle.std.proofs.Common.{◌≡◌, ℕ, ◌+◌, ◌≤◌, Bool, true, false, cond, List, take, is_ok, sym, ap, subst, arith}
 use Rattle.std.proofs.lemmas.List.{take_all}
 use Rattle.runs.specs.Runs.{Desk}
 use Rattle.runs.specs.Histories.{Request, AllPerformed, requests, request_of}
 use Rattle.runs.proofs.Performs.{none_performed, more_performed, requests_more}
-use Rattle.runs.proofs.run.Run.perform_all.Goals as goal
-use Rattle.runs.proofs.run.Run.perform_all.Goals.{then-is_ok, else-is_ok}
+use Rattle.runs.proofs.run.Run.perform_each.Goals as goal
 
 pub loop-call-init : goal.loop-call-init
 loop-call-init g c = (none_performed (g.S.Space.meaning c.args.s.now) _ c.points-n.ensures.within, omega arith)
@@ -17,17 +16,13 @@ pub loop-call-preserved : goal.loop-call-preserved
 loop-call-preserved g c =
     let was : Desk = record { state = c.loop-call.self.state; weights = c.loop-call.weights; marks = c.loop-call.marks; ledger = c.loop-call.ledger; scratch = c.loop-call.scratch } in
     let begun : Desk = record { state = c.args.self.now.state; weights = c.args.weights.now; marks = c.args.marks.now; ledger = c.args.ledger.now; scratch = c.args.scratch.now } in
-    let after : Desk = record { state = c.perform.new.self.state; weights = c.perform.new.weights; marks = c.perform.new.marks; ledger = c.perform.new.ledger; scratch = c.perform.new.scratch } in
-    let counted : c.if-is_ok.accepted ≡ c.loop-call.accepted + cond (is_ok c.perform.result) 1 0 = elim c.if-is_ok.branch [
-      | then-is_ok w ↦ w.accepted-is ∙ ap (λ b. c.loop-call.accepted + cond b 1 0) (sym w.if-is_ok.true ∙ c.is_ok.ensures.value)
-      | else-is_ok w ↦ w.accepted-is ∙ omega (arith, ap (λ b. c.loop-call.accepted + cond b 1 0) (sym w.if-is_ok.false ∙ c.is_ok.ensures.value))
-    ] in
+    let after : Desk = record { state = c.perform-answer.new.self.state; weights = c.perform-answer.new.weights; marks = c.perform-answer.new.marks; ledger = c.perform-answer.new.ledger; scratch = c.perform-answer.new.scratch } in
     let more = more_performed (g.S.Space.meaning c.args.s.now) c.points-n.ensures.within (requests g.F.Finder.promise g.V.Verifier.promise (take c.loop-call.call-index c.args.calls.now))
-    (request_of g.F.Finder.promise g.V.Verifier.promise c.call-item.result) begun was after c.perform.result c.loop-call.accepted c.if-is_ok.accepted c.loop-call.invariant.0 c.perform.ensures.step counted in (
-      subst (λ (qs : List Request). AllPerformed (g.S.Space.meaning c.args.s.now) qs begun after c.if-is_ok.accepted)
+    (request_of g.F.Finder.promise g.V.Verifier.promise c.call-item.result) begun was after c.perform-answer.result c.loop-call.accepted c.counted-accepted.result c.loop-call.invariant.0 c.perform-answer.ensures.step c.counted-accepted.ensures in (
+      subst (λ (qs : List Request). AllPerformed (g.S.Space.meaning c.args.s.now) qs begun after c.counted-accepted.result)
           (sym (requests_more g.F.Finder.promise g.V.Verifier.promise c.args.calls.now c.loop-call.call-index c.call-item.result c.loop-call-test.true c.call-item.is))
           more,
-      one_more (is_ok c.perform.result) c.loop-call.accepted c.loop-call.call-index c.if-is_ok.accepted counted c.loop-call.invariant.1,
+      one_more (is_ok c.perform-answer.result) c.loop-call.accepted c.loop-call.call-index c.counted-accepted.result c.counted-accepted.ensures c.loop-call.invariant.1,
     )
 
 pub returns : goal.returns

@@ -2,7 +2,7 @@ use Rattle.std.proofs.Common.{sym, ap, subst}
 use Rattle.runs.specs.Runs.{Desk}
 use Rattle.runs.specs.Histories.{Request, Performed, request_of}
 use Rattle.runs.proofs.Performs.{begin_performed, open_performed, give_up_performed, round_performed}
-use Rattle.runs.proofs.run.Run.perform.Goals as goal
+use Rattle.runs.proofs.run.Run.perform_call.Goals as goal
 
 pub returns-in-Begin : goal.returns-in-Begin
 returns-in-Begin g c =
