@@ -198,7 +198,7 @@ module _ (F : FinderMeaning) (V : VerifierMeaning) (S : RangeSpace) (ws ms : Lis
 
 -- the writer's last guess is the floor
 pub story_floor : (F : FinderMeaning) (V : VerifierMeaning) (S : RangeSpace) (from d : Desk) (sheet₀ sheet : List ℕ) (rounds : ℕ) (es : List Event) (w : SheetWriter) → Story F V S from sheet₀ rounds es d w sheet → d.state.floor ≡ w.guess
-story_floor F V S from d sheet₀ sheet rounds es w story = story.floor_is ∙ ap (λ (x : SheetWriter). x.guess) (sym story.written.writer)
+story_floor F V S origin d sheet₀ sheet rounds es w story = story.floor_is ∙ ap (λ (x : SheetWriter). x.guess) (sym story.written.writer)
 
 -- no point is marked where all bytes are 0
 pub clean_none : (S : RangeSpace) (ms : List ℕ) → S.ranges ≡ 0 → chosen (clean_marks S ms) ≡ 0
