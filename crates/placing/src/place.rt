@@ -33,8 +33,8 @@ pub fn place<S: Space, F: Finder<S>, V: Verifier<S>>(
     sheet: &mut [u8],
 ) -> Result<(u16, u16, u32, usize), Refusal>
     ensures check { verdict_of result ≡ place_check (S.Space.meaning s.now) ((F.Finder.promise f.now).need (S.Space.meaning s.now).points (S.Space.meaning s.now).ranges) (length weights.old) (length marks.old) (length ledger.old) (length scratch.old) (length sheet.old) }
-    ensures done { PlaceDone (F.Finder.promise f.now) (V.Verifier.promise v.now) (S.Space.meaning s.now) result (record { weights = weights.entry.now; marks = marks.old; ledger = ledger.old; scratch = scratch.old; sheet = sheet.old }) (record { weights = weights.exit.now; marks = marks.new; ledger = ledger.new; scratch = scratch.new; sheet = sheet.new }) }
-    ensures only { OnlyOne (F.Finder.promise f.now) (V.Verifier.promise v.now) (S.Space.meaning s.now) result (record { weights = weights.entry.now; marks = marks.old; ledger = ledger.old; scratch = scratch.old; sheet = sheet.old }) (record { weights = weights.exit.now; marks = marks.new; ledger = ledger.new; scratch = scratch.new; sheet = sheet.new }) }
+    ensures done { PlaceDone (F.Finder.promise f.now) (V.Verifier.promise v.now) (S.Space.meaning s.now) result (record { weights = weights.old; marks = marks.old; ledger = ledger.old; scratch = scratch.old; sheet = sheet.old }) (record { weights = weights.new; marks = marks.new; ledger = ledger.new; scratch = scratch.new; sheet = sheet.new }) }
+    ensures only { OnlyOne (F.Finder.promise f.now) (V.Verifier.promise v.now) (S.Space.meaning s.now) result (record { weights = weights.old; marks = marks.old; ledger = ledger.old; scratch = scratch.old; sheet = sheet.old }) (record { weights = weights.new; marks = marks.new; ledger = ledger.new; scratch = scratch.new; sheet = sheet.new }) }
 {
     place_or_refuse(s, f, v, weights, marks, ledger, scratch, sheet)
 }
@@ -51,8 +51,8 @@ fn place_or_refuse<S: Space, F: Finder<S>, V: Verifier<S>>(
     sheet: &mut [u8],
 ) -> Result<(u16, u16, u32, usize), Refusal>
     ensures check { verdict_of result ≡ place_check (S.Space.meaning s.now) ((F.Finder.promise f.now).need (S.Space.meaning s.now).points (S.Space.meaning s.now).ranges) (length weights.old) (length marks.old) (length ledger.old) (length scratch.old) (length sheet.old) }
-    ensures done { PlaceDone (F.Finder.promise f.now) (V.Verifier.promise v.now) (S.Space.meaning s.now) result (record { weights = weights.entry.now; marks = marks.old; ledger = ledger.old; scratch = scratch.old; sheet = sheet.old }) (record { weights = weights.exit.now; marks = marks.new; ledger = ledger.new; scratch = scratch.new; sheet = sheet.new }) }
-    ensures only { OnlyOne (F.Finder.promise f.now) (V.Verifier.promise v.now) (S.Space.meaning s.now) result (record { weights = weights.entry.now; marks = marks.old; ledger = ledger.old; scratch = scratch.old; sheet = sheet.old }) (record { weights = weights.exit.now; marks = marks.new; ledger = ledger.new; scratch = scratch.new; sheet = sheet.new }) }
+    ensures done { PlaceDone (F.Finder.promise f.now) (V.Verifier.promise v.now) (S.Space.meaning s.now) result (record { weights = weights.old; marks = marks.old; ledger = ledger.old; scratch = scratch.old; sheet = sheet.old }) (record { weights = weights.new; marks = marks.new; ledger = ledger.new; scratch = scratch.new; sheet = sheet.new }) }
+    ensures only { OnlyOne (F.Finder.promise f.now) (V.Verifier.promise v.now) (S.Space.meaning s.now) result (record { weights = weights.old; marks = marks.old; ledger = ledger.old; scratch = scratch.old; sheet = sheet.old }) (record { weights = weights.new; marks = marks.new; ledger = ledger.new; scratch = scratch.new; sheet = sheet.new }) }
 {
     let lengths = Lengths {
         weights: weights.len(),
@@ -87,7 +87,7 @@ fn place_checked<S: Space, F: Finder<S>, V: Verifier<S>>(
     sheet: &mut [u8],
 ) -> (u16, u16, u32, usize)
     requires { Placeable (F.Finder.promise f.now) (S.Space.meaning s.now) (length weights.old) marks.old (length ledger.old) (length scratch.old) (length sheet.old) }
-    ensures { Placed (F.Finder.promise f.now) (V.Verifier.promise v.now) (S.Space.meaning s.now) (record { state = blank_state; weights = weights.entry.now; marks = marks.old; ledger = ledger.old; scratch = scratch.old }) sheet.old result (record { weights = weights.exit.now; marks = marks.new; ledger = ledger.new; scratch = scratch.new; sheet = sheet.new }) }
+    ensures { Placed (F.Finder.promise f.now) (V.Verifier.promise v.now) (S.Space.meaning s.now) (record { state = blank_state; weights = weights.old; marks = marks.old; ledger = ledger.old; scratch = scratch.old }) sheet.old result (record { weights = weights.new; marks = marks.new; ledger = ledger.new; scratch = scratch.new; sheet = sheet.new }) }
 {
     let mut run = Run::new();
     match run.begin(s) {
