@@ -9,7 +9,7 @@ use Rattle.nets.specs.Verifiers.{VerifierMeaning, VerifierSound}
 use Rattle.runs.specs.declared.state.State.{State}
 use Rattle.runs.specs.Runs.{Desk, guess_of, accepted, begin_check, begun_state, open_check, open_state, round_check, round_desk, give_up_check, gave_up_state, SomeGuess, FewGuess, FewPoints, Unfinished, GrownTotal}
 use Rattle.runs.specs.declared.call.Call.{Call}
-use Rattle.runs.specs.Histories.{Event, begun, opened, judged, gave_up, refused, Step, begins, opens, judges, gives_up, refuses, History, next, Lawful, Along, RoundDone, Request, to_begin, to_open, to_round, to_give_up, check_of, ComesTo, Performed, Plays, AllPerformed, is_refused, accepted_in, request_of, requests}
+use Rattle.runs.specs.Histories.{Event, begun, opened, judged, gave_up, refused, Step, begins, opens, judges, gives_up, refuses, History, next, Lawful, Along, RoundDone, Request, to_begin, to_open, to_round, to_give_up, check_of, ComesTo, Performed, Plays, Clears, PlaysClearing, AllPerformed, AllPerformedClearing, is_refused, accepted_in, request_of, requests}
 use Rattle.runs.proofs.Rounds.{guess_small, passed}
 use Rattle.runs.proofs.Laws.{lawful, along}
 
@@ -69,13 +69,28 @@ round_performed F V S d after (Ok u) finder verifier within some few points earl
 )
 round_performed F V S d after (Err f) finder verifier within some few points early grown check done = (check, (refused, subst (Step S d refused) (sym done) refuses, refl))
 
+-- an accepted round clears its finder's need
+pub round_clears : (F : FinderMeaning) (V : VerifierMeaning) (S : RangeSpace) (d after : Desk) (r : Result Unit Refusal) → RoundDone F V S r d after → Clears S (to_round F V) r d after
+round_clears F V S d after (Ok u) done = ap (λ (x : Desk). x.scratch) done.3
+round_clears F V S d after (Err f) done = tt
+
 -- one call more
-plays_more : (S : RangeSpace) (qs : List Request) (q : Request) (d m d' : Desk) (fs : List Event) (e : Event) → Plays S qs d fs m → Step S m e d' → ComesTo S q (check_of S q m) m e → Plays S (qs ++ q ∷ []) d (fs ++ e ∷ []) d'
-plays_more S [] q d m d' [] e before step comes =
-    subst (λ (x : Desk). (y : Desk) × Step S x e y × ComesTo S q (check_of S q x) x e × (d' ≡ y)) before (d', step, comes, refl)
-plays_more S [] q d m d' (f ∷ fs) e before step comes = absurd before
-plays_more S (p ∷ qs) q d m d' [] e before step comes = absurd before
-plays_more S (p ∷ qs) q d m d' (f ∷ fs) e before step comes = (before.0, before.1, before.2, plays_more S qs q before.0 m d' fs e before.3 step comes)
+clearing_more : (S : RangeSpace) (qs : List Request) (q : Request) (d m d' : Desk) (fs : List Event) (e : Event) → PlaysClearing S qs d fs m → Step S m e d' → ComesTo S q (check_of S q m) m e
+    → Clears S q (check_of S q m) m d' → PlaysClearing S (qs ++ q ∷ []) d (fs ++ e ∷ []) d'
+clearing_more S [] q d m d' [] e before step comes clears =
+    subst (λ (x : Desk). (y : Desk) × Step S x e y × ComesTo S q (check_of S q x) x e × Clears S q (check_of S q x) x y × (d' ≡ y)) before (d', step, comes, clears, refl)
+clearing_more S [] q d m d' (f ∷ fs) e before step comes clears = absurd before
+clearing_more S (p ∷ qs) q d m d' [] e before step comes clears = absurd before
+clearing_more S (p ∷ qs) q d m d' (f ∷ fs) e before step comes clears = (before.0, before.1, before.2, before.3, clearing_more S qs q before.0 m d' fs e before.4 step comes clears)
+
+plays : (S : RangeSpace) (qs : List Request) (d d' : Desk) (fs : List Event) → PlaysClearing S qs d fs d' → Plays S qs d fs d'
+plays S [] d d' [] p = p
+plays S [] d d' (e ∷ fs) p = absurd p
+plays S (q ∷ qs) d d' [] p = absurd p
+plays S (q ∷ qs) d d' (e ∷ fs) p = (p.0, p.1, p.2, plays S qs p.0 d' fs p.4)
+
+pub all_performed : (S : RangeSpace) (qs : List Request) (d d' : Desk) (count : ℕ) → AllPerformedClearing S qs d d' count → AllPerformed S qs d d' count
+all_performed S qs d d' count all = (all.0, plays S qs d d' all.0 all.1, all.2, all.3)
 
 accepted_more : (fs : List Event) (e : Event) → accepted_in (fs ++ e ∷ []) ≡ accepted_in fs + cond (is_refused e) 0 1
 accepted_more [] e = refl
@@ -92,19 +107,19 @@ comes_accepted S (to_round F V) (Ok u) d refused is = absurd is
 comes_accepted S to_give_up (Ok u) d e is = ap is_refused is
 comes_accepted S q (Err f) d e is = ap is_refused is
 
-pub none_performed : (S : RangeSpace) (d : Desk) → Within S → AllPerformed S [] d d 0
+pub none_performed : (S : RangeSpace) (d : Desk) → Within S → AllPerformedClearing S [] d d 0
 none_performed S d within = ([], refl, refl, λ es h. (h, along S within h))
 
-pub more_performed : (S : RangeSpace) → Within S → (qs : List Request) (q : Request) (d m d' : Desk) (r : Result Unit Refusal) (count next-count : ℕ) → AllPerformed S qs d m count → Performed S q r m d'
-    → next-count ≡ count + cond (is_ok r) 1 0 → AllPerformed S (qs ++ q ∷ []) d d' next-count
-more_performed S within qs q d m d' r count next-count before now counted =
+pub more_performed : (S : RangeSpace) → Within S → (qs : List Request) (q : Request) (d m d' : Desk) (r : Result Unit Refusal) (count next-count : ℕ) → AllPerformedClearing S qs d m count → Performed S q r m d'
+    → Clears S q r m d' → next-count ≡ count + cond (is_ok r) 1 0 → AllPerformedClearing S (qs ++ q ∷ []) d d' next-count
+more_performed S within qs q d m d' r count next-count before now clears counted =
     let fs = before.0 in
     let e = now.1.0 in
     let comes = subst (λ (x : Result Unit Refusal). ComesTo S q x m e) now.0 now.1.2 in
     let way : reverse (fs ++ e ∷ []) ≡ e ∷ reverse fs = reverse-append fs (e ∷ []) in
     let one : cond {A = ℕ} (is_refused e) 0 1 ≡ cond (is_ok r) 1 0 = ap (λ b. cond b 0 1) (comes_accepted S q r m e now.1.2) ∙ turned (is_ok r) in (
       fs ++ e ∷ [],
-      plays_more S qs q d m d' fs e before.1 now.1.1 comes,
+      clearing_more S qs q d m d' fs e before.1 now.1.1 comes (subst (λ (x : Result Unit Refusal). Clears S q x m d') now.0 clears),
       accepted_more fs e ∙ omega (arith, before.2, one, counted),
       λ es h. (let on : History S (e ∷ (reverse fs ++ es)) d' = next (before.3 es h).0 now.1.1 in
           let all : (x : History S (e ∷ (reverse fs ++ es)) d') × Along x = (on, along S within on) in

@@ -19,7 +19,7 @@ use Rattle.ledgers.specs.declared.replay.Replayed.TheVariants.{Accepted}
 use Rattle.runs.specs.declared.call.Call.{Call}
 use Rattle.runs.specs.declared.call.Call.TheVariants as calls
 use Rattle.runs.specs.declared.call.Call.TheVariants.{Begin, Round, GiveUp}
-use Rattle.runs.specs.Runs.{Desk, blank_state, is_guessing, guess_of, begin_check, begun_state, open_check, open_state, round_check, round_desk, give_up_check, gave_up_state, line_of}
+use Rattle.runs.specs.Runs.{Desk, blank_state, is_guessing, guess_of, begin_check, begun_state, open_check, open_state, round_check, round_desk, give_up_check, gave_up_state, line_of, cleared}
 
 -- what one call came to
 pub data Event : Type 0 where
@@ -208,6 +208,22 @@ Plays S [] d (e ∷ fs) d' = ⊥
 Plays S (q ∷ qs) d [] d' = ⊥
 Plays S (q ∷ qs) d (e ∷ fs) d' = (m : Desk) × Step S d e m × ComesTo S q (check_of S q d) d e × Plays S qs m fs d'
 
+-- an accepted round clears as much scratch as its own finder needs; what any other call leaves, its step tells whole
+abbrev pub Clears : RangeSpace → Request → Result Unit Refusal → Desk → Desk → Type 0
+Clears S to_begin r d d' = Unit {0}
+Clears S (to_open k) r d d' = Unit {0}
+Clears S (to_round F V) (Ok u) d d' = d'.scratch ≡ cleared (F.need S.points S.ranges) d.scratch
+Clears S (to_round F V) (Err e) d d' = Unit {0}
+Clears S to_give_up r d d' = Unit {0}
+
+-- calls in order, each with its event and what it clears
+abbrev pub PlaysClearing : RangeSpace → List Request → Desk → List Event → Desk → Type 0
+PlaysClearing S [] d [] d' = d' ≡ d
+PlaysClearing S [] d (e ∷ fs) d' = ⊥
+PlaysClearing S (q ∷ qs) d [] d' = ⊥
+PlaysClearing S (q ∷ qs) d (e ∷ fs) d' =
+    (m : Desk) × Step S d e m × ComesTo S q (check_of S q d) d e × Clears S q (check_of S q d) d m × PlaysClearing S qs m fs d'
+
 -- whatever history led to a desk goes on with these events, and the laws hold all along
 abbrev pub GoesOn : RangeSpace → Desk → List Event → Desk → Type 0
 GoesOn S before fs after = (es : List Event) → History S es before → (h : History S (reverse fs ++ es) after) × Along h
@@ -216,6 +232,11 @@ GoesOn S before fs after = (es : List Event) → History S es before → (h : Hi
 abbrev pub AllPerformed : RangeSpace → List Request → Desk → Desk → ℕ → Type 0
 AllPerformed S qs before after accepted =
     (fs : List Event) × Plays S qs before fs after × (accepted_in fs ≡ accepted) × GoesOn S before fs after
+
+-- the same, with the scratch fixed to its last byte
+abbrev pub AllPerformedClearing : RangeSpace → List Request → Desk → Desk → ℕ → Type 0
+AllPerformedClearing S qs before after accepted =
+    (fs : List Event) × PlaysClearing S qs before fs after × (accepted_in fs ≡ accepted) × GoesOn S before fs after
 
 -- a round's net and answer are its finder's and its verifier's; refused, it leaves all as it was
 abbrev pub RoundDone : FinderMeaning → VerifierMeaning → RangeSpace → Result Unit Refusal → Desk → Desk → Type 0

@@ -1,6 +1,6 @@
 ghost use Rattle.std.specs.Prelude.{◌≡◌, ◌+◌, ◌^◌, ◌<◌, is_ok, if◌then◌else◌};
 ghost use Rattle.ranges.specs.Spaces.{Within};
-ghost use Rattle.runs.specs.Histories.{Performed, AllPerformed, request_of, requests};
+ghost use Rattle.runs.specs.Histories.{Performed, AllPerformed, AllPerformedClearing, Clears, request_of, requests};
 
 use crate::call::Call;
 use crate::run::Run;
@@ -21,7 +21,8 @@ impl Run {
         ledger: &mut [RangeNumber],
         scratch: &mut [u8],
     ) -> usize
-        ensures { AllPerformed (S.Space.meaning s.now) (requests F.Finder.promise V.Verifier.promise calls.now) (record { state = self.old.state; weights = weights.old; marks = marks.old; ledger = ledger.old; scratch = scratch.old }) (record { state = self.new.state; weights = weights.new; marks = marks.new; ledger = ledger.new; scratch = scratch.new }) result }
+        ensures performed { AllPerformed (S.Space.meaning s.now) (requests F.Finder.promise V.Verifier.promise calls.now) (record { state = self.old.state; weights = weights.old; marks = marks.old; ledger = ledger.old; scratch = scratch.old }) (record { state = self.new.state; weights = weights.new; marks = marks.new; ledger = ledger.new; scratch = scratch.new }) result }
+        ensures clearing { AllPerformedClearing (S.Space.meaning s.now) (requests F.Finder.promise V.Verifier.promise calls.now) (record { state = self.old.state; weights = weights.old; marks = marks.old; ledger = ledger.old; scratch = scratch.old }) (record { state = self.new.state; weights = weights.new; marks = marks.new; ledger = ledger.new; scratch = scratch.new }) result }
     {
         self.perform_each(s, calls, weights, marks, ledger, scratch)
     }
@@ -37,6 +38,7 @@ impl Run {
         scratch: &mut [u8],
     ) -> Result<(), Refusal>
         ensures step { Performed (S.Space.meaning s.now) (request_of F.Finder.promise V.Verifier.promise call.now) result (record { state = self.old.state; weights = weights.old; marks = marks.old; ledger = ledger.old; scratch = scratch.old }) (record { state = self.new.state; weights = weights.new; marks = marks.new; ledger = ledger.new; scratch = scratch.new }) }
+        ensures clearing { Clears (S.Space.meaning s.now) (request_of F.Finder.promise V.Verifier.promise call.now) result (record { state = self.old.state; weights = weights.old; marks = marks.old; ledger = ledger.old; scratch = scratch.old }) (record { state = self.new.state; weights = weights.new; marks = marks.new; ledger = ledger.new; scratch = scratch.new }) }
         ensures within { Within (S.Space.meaning s.now) }
     {
         self.perform_call(s, call, weights, marks, ledger, scratch)
@@ -52,7 +54,8 @@ impl Run {
         ledger: &mut [RangeNumber],
         scratch: &mut [u8],
     ) -> usize
-        ensures { AllPerformed (S.Space.meaning s.now) (requests F.Finder.promise V.Verifier.promise calls.now) (record { state = self.old.state; weights = weights.old; marks = marks.old; ledger = ledger.old; scratch = scratch.old }) (record { state = self.new.state; weights = weights.new; marks = marks.new; ledger = ledger.new; scratch = scratch.new }) result }
+        ensures performed { AllPerformed (S.Space.meaning s.now) (requests F.Finder.promise V.Verifier.promise calls.now) (record { state = self.old.state; weights = weights.old; marks = marks.old; ledger = ledger.old; scratch = scratch.old }) (record { state = self.new.state; weights = weights.new; marks = marks.new; ledger = ledger.new; scratch = scratch.new }) result }
+        ensures clearing { AllPerformedClearing (S.Space.meaning s.now) (requests F.Finder.promise V.Verifier.promise calls.now) (record { state = self.old.state; weights = weights.old; marks = marks.old; ledger = ledger.old; scratch = scratch.old }) (record { state = self.new.state; weights = weights.new; marks = marks.new; ledger = ledger.new; scratch = scratch.new }) result }
     {
         // one question brings what every space keeps
         let _n = s.points();
@@ -75,6 +78,7 @@ impl Run {
         scratch: &mut [u8],
     ) -> Result<(), Refusal>
         ensures step { Performed (S.Space.meaning s.now) (request_of F.Finder.promise V.Verifier.promise call.now) result (record { state = self.old.state; weights = weights.old; marks = marks.old; ledger = ledger.old; scratch = scratch.old }) (record { state = self.new.state; weights = weights.new; marks = marks.new; ledger = ledger.new; scratch = scratch.new }) }
+        ensures clearing { Clears (S.Space.meaning s.now) (request_of F.Finder.promise V.Verifier.promise call.now) result (record { state = self.old.state; weights = weights.old; marks = marks.old; ledger = ledger.old; scratch = scratch.old }) (record { state = self.new.state; weights = weights.new; marks = marks.new; ledger = ledger.new; scratch = scratch.new }) }
         ensures within { Within (S.Space.meaning s.now) }
     {
         // one question brings what every space keeps

@@ -1,8 +1,8 @@
 use Rattle.std.proofs.Common.{◌≡◌, ℕ, ◌+◌, ◌≤◌, Bool, true, false, cond, List, take, is_ok, sym, ap, subst, arith}
 use Rattle.std.proofs.lemmas.List.{take_all}
 use Rattle.runs.specs.Runs.{Desk}
-use Rattle.runs.specs.Histories.{Request, AllPerformed, requests, request_of}
-use Rattle.runs.proofs.Performs.{none_performed, more_performed, requests_more}
+use Rattle.runs.specs.Histories.{Request, AllPerformedClearing, requests, request_of}
+use Rattle.runs.proofs.Performs.{none_performed, more_performed, all_performed, requests_more}
 use Rattle.runs.proofs.run.Run.perform_each.Goals as goal
 
 pub loop-call-init : goal.loop-call-init
@@ -18,8 +18,8 @@ loop-call-preserved g c =
     let begun : Desk = record { state = c.args.self.now.state; weights = c.args.weights.now; marks = c.args.marks.now; ledger = c.args.ledger.now; scratch = c.args.scratch.now } in
     let after : Desk = record { state = c.perform-answer.new.self.state; weights = c.perform-answer.new.weights; marks = c.perform-answer.new.marks; ledger = c.perform-answer.new.ledger; scratch = c.perform-answer.new.scratch } in
     let more = more_performed (g.S.Space.meaning c.args.s.now) c.points-n.ensures.within (requests g.F.Finder.promise g.V.Verifier.promise (take c.loop-call.call-index c.args.calls.now))
-    (request_of g.F.Finder.promise g.V.Verifier.promise c.call-item.result) begun was after c.perform-answer.result c.loop-call.accepted c.counted-accepted.result c.loop-call.invariant.0 c.perform-answer.ensures.step c.counted-accepted.ensures in (
-      subst (λ (qs : List Request). AllPerformed (g.S.Space.meaning c.args.s.now) qs begun after c.counted-accepted.result)
+    (request_of g.F.Finder.promise g.V.Verifier.promise c.call-item.result) begun was after c.perform-answer.result c.loop-call.accepted c.counted-accepted.result c.loop-call.invariant.0 c.perform-answer.ensures.step c.perform-answer.ensures.clearing c.counted-accepted.ensures in (
+      subst (λ (qs : List Request). AllPerformedClearing (g.S.Space.meaning c.args.s.now) qs begun after c.counted-accepted.result)
           (sym (requests_more g.F.Finder.promise g.V.Verifier.promise c.args.calls.now c.loop-call.call-index c.call-item.result c.loop-call-test.true c.call-item.is))
           more,
       one_more (is_ok c.perform-answer.result) c.loop-call.accepted c.loop-call.call-index c.counted-accepted.result c.counted-accepted.ensures c.loop-call.invariant.1,
@@ -27,9 +27,10 @@ loop-call-preserved g c =
 
 pub returns : goal.returns
 returns g c =
-    subst (λ (qs : List Request). AllPerformed (g.S.Space.meaning c.args.s.now) qs
+    let all = subst (λ (qs : List Request). AllPerformedClearing (g.S.Space.meaning c.args.s.now) qs
     (record { state = c.args.self.now.state; weights = c.args.weights.now; marks = c.args.marks.now; ledger = c.args.ledger.now; scratch = c.args.scratch.now })
     (record { state = c.loop-call.self.state; weights = c.loop-call.weights; marks = c.loop-call.marks; ledger = c.loop-call.ledger; scratch = c.loop-call.scratch })
     c.loop-call.accepted)
     (ap (requests g.F.Finder.promise g.V.Verifier.promise) (take_all c.loop-call.call-index c.args.calls.now c.loop-call-test.false))
-    c.loop-call.invariant.0
+    c.loop-call.invariant.0 in
+    record { performed = all_performed (g.S.Space.meaning c.args.s.now) _ _ _ _ all; clearing = all }
