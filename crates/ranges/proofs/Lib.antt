@@ -4,3 +4,5 @@ pub mod Hits
 pub mod Marks
 pub mod Least
 pub mod Checks
+pub mod Chains
+pub mod Totals

@@ -48,6 +48,11 @@ least_suc t n = refl
 pub least_passed : (t : ℕ → Bool) (n : ℕ) → least_below t n ≡ None → t n ≡ false → least_below t (n + 1) ≡ None
 least_passed t n before here = rw add-one (least_suc t n ∙ ap (λ o. or_else o (cond (t n) (Some n) None)) before ∙ ap (λ b. cond b (Some n) None) here)
 
+-- none below n passes
+pub least_not : (t : ℕ → Bool) (n : ℕ) → ((i : ℕ) → i < n → t i ≡ false) → least_below t n ≡ None
+least_not t zero h = least_none t
+least_not t (suc n) h = subst (λ (m : ℕ). least_below t m ≡ None) (add-one n) (least_passed t n (least_not t n (λ i l. h i (omega arith))) (h n (omega arith)))
+
 -- none so far, and here: the answer, however many numbers follow
 pub least_here : (t : ℕ → Bool) (i n : ℕ) → i < n → least_below t i ≡ None → t i ≡ true → least_below t n ≡ Some i
 least_here t i zero l before here = absurd (omega arith)

@@ -13,6 +13,11 @@ sum_suc f n = refl
 pub sum_more : (f : ℕ → ℕ) (n : ℕ) → sum_below f (n + 1) ≡ sum_below f n + f n
 sum_more f n = rw add-one (sum_suc f n)
 
+-- the first number apart from those behind it
+pub sum_front : (f : ℕ → ℕ) (n : ℕ) → sum_below f (suc n) ≡ f 0 + sum_below (λ i. f (suc i)) n
+sum_front f zero = omega (arith, sum_suc f 0, sum_none f, sum_none (λ i. f (suc i)))
+sum_front f (suc n) = omega (arith, sum_front f n, sum_suc f (suc n), sum_suc (λ i. f (suc i)) n)
+
 pub sum_le : (f g : ℕ → ℕ) (n : ℕ) → ((i : ℕ) → i < n → f i ≤ g i) → sum_below f n ≤ sum_below g n
 sum_le f g zero h = omega (arith, sum_none f)
 sum_le f g (suc n) h =

@@ -1,5 +1,5 @@
 -- The refusals: each case's number, what it is returned with, and the order of checks.
-use Rattle.std.specs.Prelude.{ℕ, Bool, cond, Some, None, Ok, Err, Option, Result}
+use Rattle.std.specs.Prelude.{ℕ, Bool, cond, List, codes, Some, None, Ok, Err, Option, Result}
 use Rattle.ranges.specs.declared.number.RangeNumber.{RangeNumber}
 use Rattle.ranges.specs.declared.refusal.Refusal.{Refusal}
 use Rattle.ranges.specs.declared.refusal.Refusal.TheVariants.{CountAboveLimit, CoordinateBeyondLimits, Reversed, RunBegun, EmptyRange, RunBlank, OtherSpace, WrongLength, GuessOpen, NoGuessOpen, GuessOutOfRange, GuessNotAboveFloor, BookFull, LedgerLength, ShortScratch, WrongTotal, ShortBuffer, BadSheet}
@@ -43,6 +43,27 @@ returned_with ShortScratch = None
 returned_with WrongTotal = None
 returned_with ShortBuffer = None
 returned_with BadSheet = None
+
+-- the words of a refusal
+abbrev pub reason : Refusal → List ℕ
+reason CountAboveLimit = codes "too many points or ranges"
+reason CoordinateBeyondLimits = codes "a coordinate beyond its limits"
+reason Reversed = codes "reversed ends or descending points"
+reason RunBegun = codes "the run is begun already"
+reason (EmptyRange j) = codes "a range holds no point"
+reason RunBlank = codes "the run is blank"
+reason OtherSpace = codes "the space is not the run's"
+reason WrongLength = codes "a buffer has the wrong length"
+reason GuessOpen = codes "a guess is open"
+reason NoGuessOpen = codes "no guess is open"
+reason GuessOutOfRange = codes "the guess is out of range"
+reason GuessNotAboveFloor = codes "the guess is not above the floor"
+reason BookFull = codes "the book is full"
+reason LedgerLength = codes "the ledger has the wrong length"
+reason ShortScratch = codes "the scratch is too short"
+reason WrongTotal = codes "the total is wrong"
+reason ShortBuffer = codes "the buffer is too short"
+reason BadSheet = codes "the sheet is not accepted"
 
 -- what a call answers as a number: 0 where it accepts
 abbrev pub answer : {A : Type 0} → Result A Refusal → ℕ

@@ -1,7 +1,10 @@
 -- Weights, heavy ranges and hits.
-use Rattle.std.specs.Prelude.{◌≡◌, ℕ, ◌*◌, ◌<◌, min, Bool, true, cond, not, ◌&&◌, List, map, length, Some, None, Option, ◌==◌, nat_lt, slice_index}
+use Rattle.std.specs.Prelude.{◌≡◌, ℕ, ◌*◌, ◌^◌, ◌<◌, min, Bool, true, cond, not, ◌&&◌, List, map, length, Some, None, Ok, Option, Result, ◌==◌, nat_lt, slice_index}
 use Rattle.std.specs.List.{range_with_len}
 use Rattle.ranges.specs.declared.number.RangeNumber.{RangeNumber}
+use Rattle.ranges.specs.declared.refusal.Refusal.{Refusal}
+use Rattle.ranges.specs.declared.refusal.Refusal.TheVariants.{WrongLength, WrongTotal}
+use Rattle.ranges.specs.Refusals.{unless}
 use Rattle.ranges.specs.Below.{sum_below, count_below, any_below, least_below}
 use Rattle.ranges.specs.Spaces.{RangeSpace}
 
@@ -31,6 +34,12 @@ outweighs k w W = nat_lt W (2 * k * w)
 
 abbrev pub heavy : RangeSpace → ℕ → List ℕ → ℕ → Bool
 heavy S k ws j = outweighs k (range_weight S ws j) (total ws)
+
+-- the check of weights by themselves: one for each point, and a total of at most 2^49
+abbrev pub weights_check : RangeSpace → List ℕ → Result Unit Refusal
+weights_check S ws =
+    unless (not (length ws == S.points)) WrongLength
+    (unless (nat_lt (2 ^ 49) (total ws)) WrongTotal (Ok tt))
 
 -- a point is marked if its byte is 1
 abbrev pub marked : List ℕ → ℕ → Bool

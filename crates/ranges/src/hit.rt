@@ -52,30 +52,23 @@ impl<'a, S: Space> PointSet for HeldBy<'a, S> {
 pub fn is_marked(marks: &[u8], p: PointNumber) -> bool
     ensures { result ≡ marked marks.now p.0 }
 {
-    let i = p.0 as usize;
-    i < marks.len() && marks[i] == 1
+    marks.get(p.0 as usize).is_some_and(|byte| *byte == 1)
 }
 
 // Whether range j holds a point of the set.
 pub fn is_hit<S: Space, P: PointSet>(s: &S, set: &P, j: RangeNumber) -> bool
     ensures { result ≡ hit (S.Space.meaning s.now) (P.PointSet.members set.now) j.0 }
 {
-    for p in 0..s.points() {
-        if set.contains(PointNumber(p)) && s.holds(j, PointNumber(p)) {
-            return true;
-        }
-    }
-    false
+    (0..s.points())
+        .map(PointNumber)
+        .any(|p| set.contains(p) && s.holds(j, p))
 }
 
 // The range with the lowest number that holds no point of the set.
 pub fn lowest_missed<S: Space, P: PointSet>(s: &S, set: &P) -> Option<RangeNumber>
     ensures { range_of result ≡ lowest_missed (S.Space.meaning s.now) (P.PointSet.members set.now) }
 {
-    for j in 0..s.ranges() {
-        if !is_hit(s, set, RangeNumber(j)) {
-            return Some(RangeNumber(j));
-        }
-    }
-    None
+    (0..s.ranges())
+        .map(RangeNumber)
+        .find(|j| !is_hit(s, set, *j))
 }

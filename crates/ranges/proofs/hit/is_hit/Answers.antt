@@ -1,21 +1,13 @@
-use Rattle.std.proofs.Common.{◌<◌, sym, ◌∙◌, arith}
-use Rattle.std.proofs.lemmas.Bool.{and_from, and_left, and_right, or_from}
-use Rattle.ranges.specs.Weights.{hits_at}
-use Rattle.ranges.proofs.Searches.{any_found, any_more}
+use Rattle.std.proofs.Common.{◌≡◌, true, false, ◌&&◌, rules, tests}
+use Rattle.std.proofs.lemmas.Iterator.{cases_from_any, YieldsList-from_range, YieldsList-from_map}
+use Rattle.ranges.proofs.Chains.{any_in_numbers}
 use Rattle.ranges.proofs.hit.is_hit.Goals as goal
-use Rattle.ranges.proofs.hit.is_hit.Goals.{else-contains-via-then-contains+else-holds, else-contains-via-else-contains}
 
-pub returns-then-holds : goal.returns-then-holds
-returns-then-holds g c =
-    let here = and_from _ _ (sym c.if-contains.ensures) (sym c.if-holds.ensures) in
-    let l : c.loop-p.p < (g.S.Space.meaning c.args.s.now).points = omega arith in
-    sym (any_found (hits_at (g.S.Space.meaning c.args.s.now) (g.P.PointSet.members c.args.set.now) c.args.j.0) _ _ l here)
-
-pub loop-p-preserved : goal.loop-p-preserved
-loop-p-preserved g c =
-    any_more (hits_at (g.S.Space.meaning c.args.s.now) (g.P.PointSet.members c.args.set.now) c.args.j.0) c.loop-p.p ∙ or_from _ _
-    (elim c.else-contains.branch [
-      | else-contains-via-then-contains+else-holds w ↦ and_right _ _ (sym w.if-holds.ensures)
-      | else-contains-via-else-contains w ↦ and_left _ _ (sym w.if-contains.ensures)
-    ])
-    c.loop-p.invariant
+pub returns : goal.returns
+returns g c =
+    let P = g.P.PointSet.members c.args.set.now in
+    let S = g.S.Space.meaning c.args.s.now in
+    any_in_numbers (λ k. record { 0 = k }) (λ p. P p.0 && S.holds c.args.j.0 p.0) S.points _
+    (cases_from_any _ _ _ (λ p. (P p.0 && S.holds c.args.j.0 p.0) ≡ true) (λ p. (P p.0 && S.holds c.args.j.0 p.0) ≡ false) c.any.ensures.ran
+    (YieldsList-from_map _ (λ k. record { 0 = k }) (YieldsList-from_range 0 S.points S.points (search rules) (search rules)) (search rules) (λ x r q k. search rules))
+    (λ x q k. search (rules, tests)) (λ x q k. search (rules, tests)))

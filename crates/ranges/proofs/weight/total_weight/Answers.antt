@@ -1,7 +1,10 @@
-use Rattle.std.proofs.Common.{arith}
-use Rattle.ranges.specs.Weights.{weight_at}
-use Rattle.ranges.proofs.Sums.{sum_more}
+use Rattle.std.proofs.Common.{ap, ◌∙◌, rules}
+use Rattle.std.proofs.lemmas.Iterator.{YieldsList-from_slice}
+use Rattle.ranges.specs.Weights.{capped}
+use Rattle.ranges.proofs.Chains.{capped_fold, sum_by_places}
 use Rattle.ranges.proofs.weight.total_weight.Goals as goal
 
-pub loop-w-preserved : goal.loop-w-preserved
-loop-w-preserved c = omega (arith, sum_more (weight_at c.args.weights.now) c.loop-w.w-index)
+pub returns : goal.returns
+returns c =
+    capped_fold _ _ (λ w. w) _ c.fold.ensures.ran (YieldsList-from_slice c.args.weights.now cc) (λ a b x q k. search rules)
+    ∙ ap capped (sum_by_places c.args.weights.now)
