@@ -1,7 +1,6 @@
 pub mod Finders
 pub mod Verifiers
 pub mod Sweeps
-pub mod Weighed
 pub mod Lightness
 pub mod SweepsLemmas
 pub mod Lowest

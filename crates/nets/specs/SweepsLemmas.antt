@@ -1,12 +1,11 @@
 -- The sweep marks a net for every ordered space.
-use Rattle.std.specs.Prelude.{◌≡◌, ℕ, zero, suc, ◌+◌, ◌-◌, ◌*◌, ◌^◌, ◌<◌, ◌≤◌, Bool, true, false, cond, List, length, nat_le, nat_lt, refl}
+use Rattle.std.specs.Prelude.{◌≡◌, ℕ, zero, suc, ◌+◌, ◌-◌, ◌*◌, ◌^◌, ◌<◌, ◌≤◌, Bool, true, false, List, length, nat_le, nat_lt, refl}
 use Rattle.std.proofs.Common.{sym, ap, ◌∙◌, inl, inr, mul-le-mul_left, mul-le-mul_right, mul-add, add-one, arith}
-use mir.Val.{bool_byte}
 use Rattle.std.proofs.lemmas.Bool.{cases_Bool, cases_lt, ltb-true, ltb-false, and_from, and_parts, and_cases, both_ways, le-leb, lt-ltb, le-ltb, leb-true, cond-true, cond-false}
 use Rattle.ranges.specs.Below.{sum_below, count_below, any_below}
 use Rattle.ranges.specs.Spaces.{RangeSpace, Ordered}
 use Rattle.ranges.specs.Weights.{weight_at, total, share, outweighs, heavy, marked, chosen, hits_at, marks_of}
-use Rattle.ranges.proofs.Sums.{sum_suc, sum_more, sum_fewer, count_yes, count_no}
+use Rattle.ranges.proofs.Sums.{sum_suc, sum_fewer, count_yes, count_no}
 use Rattle.ranges.proofs.Searches.{any_absent}
 use Rattle.ranges.proofs.Hits.{hit_gives}
 use Rattle.ranges.proofs.Marks.{marks_long, marks_bits, marks_marked, marks_chosen}
@@ -148,28 +147,22 @@ sweep_sound S k ws ms asked net =
       few = rw (ap chosen is ∙ marks_chosen t n ∙ ap (count_below t) (sym asked.long)) (few_marked k ws);
     }
 
--- one turn of the sweep: r is whether the sum is heavy, and the sum that goes on
-module _ (k : ℕ) (ws : List ℕ) (i sum W : ℕ) (r : Bool × ℕ) (before : sum ≡ carried k ws i) (whole : W ≡ total ws) (turn : r ≡ (outweighs k (sum + weight_at ws i) W, carry_on k W (sum + weight_at ws i))) where
-  pub turn_full : r.0 ≡ full k ws i
-  turn_full = ap (λ x. x.0) turn ∙ (λ d. outweighs k (before d + weight_at ws i) (whole d))
+-- one turn of the sweep, where the sum is heavy and where it is not
+module _ (k : ℕ) (ws : List ℕ) (i sum W w : ℕ) (before : sum ≡ carried k ws i) (whole : W ≡ total ws) (weight : w ≡ weight_at ws i) where
+  is_full : (b : Bool) → b ≡ outweighs k (sum + w) W → b ≡ full k ws i
+  is_full b e = e ∙ (λ d. outweighs k (before d + weight d) (whole d))
 
-  pub turn_carried : r.1 ≡ carried k ws (i + 1)
-  turn_carried = ap (λ x. x.1) turn ∙ (λ d. carry_on k (whole d) (before d + weight_at ws i)) ∙ sym (carried_more k ws i)
+  pub turn_marked : outweighs k (sum + w) W ≡ true → (0 ≡ carried k ws (i + 1)) × (full k ws i ≡ true)
+  turn_marked e =
+      let at : full k ws i ≡ true = sym (is_full true (sym e)) in
+      (sym (carried_more k ws i ∙ marked_carry k ws i at), at)
+
+  pub turn_passed : outweighs k (sum + w) W ≡ false → (sum + w ≡ carried k ws (i + 1)) × (full k ws i ≡ false)
+  turn_passed e =
+      let at : full k ws i ≡ false = sym (is_full false (sym e)) in
+      (ap (λ x. x + w) before ∙ ap (λ x. carried k ws i + x) weight ∙ sym (carried_more k ws i ∙ unmarked_carry k ws i at), at)
 
 -- the sum with the next weight stays small
 pub sum_fits : (k : ℕ) (ws : List ℕ) (i sum : ℕ) → sum ≡ carried k ws i → i < length ws → total ws ≤ 2 ^ 49 → sum + weight_at ws i < 2 ^ 64
 sum_fits k ws i sum before l small =
     omega (arith, carried_le k ws i, sum_suc (weight_at ws) i, sum_fewer (weight_at ws) (suc i) (length ws) (omega arith))
-
-pub byte_is : (b : Bool) → bool_byte b ≡ cond b 1 0
-byte_is true = refl
-byte_is false = refl
-
-pub byte_le : (b : Bool) → bool_byte b ≤ 1
-byte_le true = omega arith
-byte_le false = omega arith
-
-pub count_more : (t : ℕ → Bool) (i count byte : ℕ) (b : Bool) → count ≡ count_below t i → byte ≡ bool_byte b → b ≡ t i → count + byte ≡ count_below t (i + 1)
-count_more t i count byte b before is here =
-    let one : byte ≡ cond (t i) 1 0 = is ∙ byte_is b ∙ ap (λ x. cond x 1 0) here in
-    omega (arith, sum_more (λ p. cond (t p) 1 0) i)

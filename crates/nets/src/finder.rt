@@ -1,11 +1,11 @@
-ghost use Rattle.std.specs.Prelude.{◌≡◌, length};
+ghost use Rattle.std.specs.Prelude.{◌≡◌, length, IfOk};
 ghost use Rattle.ranges.specs.Refusals.{verdict_of};
 ghost use Rattle.ranges.specs.Spaces.{Within};
 ghost use Rattle.nets.specs.Finders.{FinderMeaning, find_check, FoundMarks, found_scratch, FinderSound};
 
 use ranges::refusal::Refusal;
 use ranges::space::Space;
-use ranges::weight::{MOST_WEIGHT, total_weight};
+use ranges::weight::Weights;
 
 // Marks points that hit every heavy range of a space, for a guess and weights.
 pub trait Finder<S: Space> {
@@ -34,16 +34,17 @@ pub trait Finder<S: Space> {
     ghost sound: { (f : Self) → FinderSound (promise f) };
 }
 
-// The checks of every finder, in number order.
-pub fn check_find<S: Space>(
-    s: &S,
+// The checks of every finder, in number order; passed, they give the weights with their total.
+pub fn check_find<'a, S: Space>(
+    s: &'a S,
     k: u16,
-    weights: &[u64],
+    weights: &'a [u64],
     marks: usize,
     scratch: usize,
     need: usize,
-) -> Result<(), Refusal>
-    ensures check { result ≡ find_check (S.Space.meaning s.now) k weights.now marks scratch need }
+) -> Result<Weights<'a, S>, Refusal>
+    ensures check { verdict_of result ≡ find_check (S.Space.meaning s.now) k weights.now marks scratch need }
+    ensures given { IfOk result (λ w. (w.each.now ≡ weights.now) × (S.Space.meaning w.space.now ≡ S.Space.meaning s.now)) }
     ensures within { Within (S.Space.meaning s.now) }
 {
     let n = s.points();
@@ -56,8 +57,5 @@ pub fn check_find<S: Space>(
     if scratch < need {
         return Err(Refusal::ShortScratch);
     }
-    if total_weight(weights) > MOST_WEIGHT {
-        return Err(Refusal::WrongTotal);
-    }
-    Ok(())
+    Weights::new(s, weights)
 }

@@ -1,4 +1,4 @@
-ghost use Rattle.std.specs.Prelude.{◌≡◌, length};
+ghost use Rattle.std.specs.Prelude.{◌≡◌, length, IfOk};
 ghost use Rattle.ranges.specs.Refusals.{verdict_of};
 ghost use Rattle.ranges.specs.Spaces.{Within};
 ghost use Rattle.nets.specs.Verifiers.{VerifierMeaning, judge_check, Picked, VerifierSound, lowest_verifier};
@@ -8,7 +8,7 @@ use ranges::hit::{Marked, lowest_missed};
 use ranges::number::RangeNumber;
 use ranges::refusal::Refusal;
 use ranges::space::Space;
-use ranges::weight::{MOST_WEIGHT, total_weight};
+use ranges::weight::Weights;
 
 // Says whether the marked points hit every range, or names one that they miss.
 pub trait Verifier<S: Space> {
@@ -21,19 +21,20 @@ pub trait Verifier<S: Space> {
     ghost sound: { (v : Self) → VerifierSound (promise v) };
 }
 
-// The checks of every verifier, in number order.
-pub fn check_judge<S: Space>(s: &S, marks: usize, weights: &[u64]) -> Result<(), Refusal>
-    ensures check { result ≡ judge_check (S.Space.meaning s.now) marks weights.now }
+// The checks of every verifier, in number order; passed, they give the weights with their total.
+pub fn check_judge<'a, S: Space>(
+    s: &'a S,
+    marks: usize,
+    weights: &'a [u64],
+) -> Result<Weights<'a, S>, Refusal>
+    ensures check { verdict_of result ≡ judge_check (S.Space.meaning s.now) marks weights.now }
+    ensures given { IfOk result (λ w. (w.each.now ≡ weights.now) × (S.Space.meaning w.space.now ≡ S.Space.meaning s.now)) }
     ensures within { Within (S.Space.meaning s.now) }
 {
-    let n = s.points() as usize;
-    if weights.len() != n || marks != n {
+    if marks != s.points() as usize {
         return Err(Refusal::WrongLength);
     }
-    if total_weight(weights) > MOST_WEIGHT {
-        return Err(Refusal::WrongTotal);
-    }
-    Ok(())
+    Weights::new(s, weights)
 }
 
 // Names the missed range with the lowest number.

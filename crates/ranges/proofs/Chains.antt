@@ -25,6 +25,12 @@ use Rattle.ranges.proofs.Searches.{any_found, any_not, least_here, least_not}
 abbrev pub numbers : {X : Type 0} → (ℕ → X) → ℕ → List X
 numbers mk n = map mk (range_with_len 0 n)
 
+-- one number more, if it passes
+pub numbers_more : {X : Type 0} (mk : ℕ → X) (t : X → Bool) (n : ℕ) → filter t (numbers mk (suc n)) ≡ filter t (numbers mk n) ++ cond (t (mk n)) (mk n ∷ []) []
+numbers_more mk t n =
+    subst (λ (s : ℕ). filter t (numbers mk s) ≡ filter t (numbers mk n) ++ cond (t (mk n)) (mk n ∷ []) []) (add-one n)
+    (filter_of_map_range_with_len_more t mk 0 n n (omega arith))
+
 module _ {X : Type 0} (mk : ℕ → X) (t : X → Bool) (n : ℕ) where
   pub any_in_numbers : (r : Bool) → MatchBool r ((k : ℕ) × (k < length (numbers mk n)) × HoldsAt (λ x. t x ≡ true) (numbers mk n) k) (AllWithin (λ x. t x ≡ false) (numbers mk n) 0 (length (numbers mk n))) → r ≡ any_below (λ k. t (mk k)) n
   any_in_numbers true (k, l, is) =
@@ -51,13 +57,10 @@ module _ {X : Type 0} (mk : ℕ → X) (t : X → Bool) (n : ℕ) where
       here : (k : ℕ) → sum_by f (cond (t (mk k)) (mk k ∷ []) []) ≡ cond (t (mk k)) (f (mk k)) 0
       here k = elim (cases_Bool (t (mk k))) [ inl e ↦ rw e (omega arith) | inr e ↦ rw e refl ]
 
-      more : (m : ℕ) → filter t (numbers mk (suc m)) ≡ filter t (numbers mk m) ++ cond (t (mk m)) (mk m ∷ []) []
-      more m = subst (λ (s : ℕ). filter t (numbers mk s) ≡ filter t (numbers mk m) ++ cond (t (mk m)) (mk m ∷ []) []) (add-one m) (filter_of_map_range_with_len_more t mk 0 m m (omega arith))
-
       up : (m : ℕ) → sum_by f (filter t (numbers mk m)) ≡ sum_below (λ k. cond (t (mk k)) (f (mk k)) 0) m
       up zero = refl
       up (suc m) =
-          ap (λ ys. sum_by f ys) (more m)
+          ap (λ ys. sum_by f ys) (numbers_more mk t m)
           ∙ sum_by-append f (filter t (numbers mk m)) (cond (t (mk m)) (mk m ∷ []) [])
           ∙ omega (arith, up m, here m, sum_suc (λ k. cond (t (mk k)) (f (mk k)) 0) m)
 

@@ -6,3 +6,4 @@ pub mod Least
 pub mod Checks
 pub mod Chains
 pub mod Totals
+pub mod Picks

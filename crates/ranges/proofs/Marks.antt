@@ -1,5 +1,6 @@
 -- Marks written from a test: 1 where it passes, else 0.
 use Rattle.std.proofs.Common.{◌≡◌, ℕ, ◌<◌, Bool, true, false, cond, eqb, ◌⊎◌, length, get_or, refl, ap, ◌∙◌, inl, inr, arith}
+use mir.Val.{bool_byte}
 use Rattle.std.proofs.lemmas.List.FromFn.{length-map-range_with_len, get_or-map-range_with_len}
 use Rattle.ranges.specs.Below.{count_below}
 use Rattle.ranges.specs.Weights.{marked, chosen, marks_of}
@@ -8,6 +9,11 @@ use Rattle.ranges.proofs.Sums.{sum_same}
 pub bit_is : (b : Bool) → eqb (cond b 1 0) 1 ≡ b
 bit_is true = refl
 bit_is false = refl
+
+-- a mark as `u8::from` makes it
+pub byte_bit : (b : Bool) → bool_byte b ≡ cond b 1 0
+byte_bit true = refl
+byte_bit false = refl
 
 bit_cases : (b : Bool) (x : ℕ) → x ≡ cond b 1 0 → (x ≡ 0) ⊎ (x ≡ 1)
 bit_cases true x e = inr e

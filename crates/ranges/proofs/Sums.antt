@@ -67,6 +67,12 @@ count_yes t n e = sum_suc (λ i. cond (t i) 1 0) n ∙ ap (λ b. count_below t n
 pub count_no : (t : ℕ → Bool) (n : ℕ) → t n ≡ false → count_below t (suc n) ≡ count_below t n
 count_no t n e = omega (arith, sum_suc (λ i. cond (t i) 1 0) n ∙ ap (λ b. count_below t n + cond b 1 0) e)
 
+pub count_here : (t : ℕ → Bool) (n : ℕ) → t n ≡ true → count_below t (n + 1) ≡ count_below t n + 1
+count_here t n e = rw add-one (count_yes t n e)
+
+pub count_past : (t : ℕ → Bool) (n : ℕ) → t n ≡ false → count_below t (n + 1) ≡ count_below t n
+count_past t n e = rw add-one (count_no t n e)
+
 -- the test passes below c and nowhere else
 pub count_front : (t : ℕ → Bool) (n c : ℕ) → c ≤ n → ((i : ℕ) → i < c → t i ≡ true) → ((i : ℕ) → c ≤ i → i < n → t i ≡ false) → count_below t n ≡ c
 count_front t zero c few front rest = omega arith

@@ -1,5 +1,6 @@
 ghost use Rattle.std.specs.Prelude.{◌≡◌, ◌^◌, ◌≤◌, length, IfOk};
 ghost use Rattle.ranges.specs.Refusals.{verdict_of};
+ghost use Rattle.ranges.specs.Spaces.{Within};
 ghost use Rattle.ranges.specs.Weights.{weight_at, total, range_weight, outweighs, heavy, capped, weights_check};
 
 use crate::number::{PointNumber, RangeNumber};
@@ -46,6 +47,7 @@ pub struct Weights<'a, S: Space> {
     space: &'a S,
     each: &'a [u64],
     whole: u64,
+    ghost within: { Within (S.Space.meaning space.now) },
     ghost long: { length each.now ≡ (S.Space.meaning space.now).points },
     ghost added: { whole ≡ total each.now },
     ghost small: { whole ≤ 2 ^ 49 },
@@ -64,6 +66,20 @@ impl<'a, S: Space> Weights<'a, S> {
             return Err(Refusal::WrongTotal);
         }
         Ok(Weights { space, each, whole })
+    }
+
+    // The space whose points are weighed.
+    pub fn space(&self) -> &'a S
+        ensures { S.Space.meaning result.now ≡ S.Space.meaning self.now.space.now }
+    {
+        self.space
+    }
+
+    // The weight of each point.
+    pub fn each(&self) -> &'a [u64]
+        ensures { result.now ≡ self.now.each.now }
+    {
+        self.each
     }
 
     // W, the total.

@@ -1,39 +1,51 @@
-use Rattle.std.proofs.Common.{◌≡◌, ◌<◌, cond, length, get_or, set, sym, ap, ◌∙◌, arith}
+use Rattle.std.proofs.Common.{◌≡◌, ◌+◌, ◌<◌, cond, length, get_or, set, sym, ap, ◌∙◌, arith}
 use Rattle.std.proofs.lemmas.List.FromFn.{fill_by_all}
 use Rattle.std.proofs.lemmas.List.Edits.{fill_by_more}
 use Rattle.ranges.specs.Below.{count_below}
 use Rattle.ranges.specs.Weights.{chosen}
-use Rattle.ranges.proofs.Sums.{count_le}
-use Rattle.ranges.proofs.Marks.{marks_chosen}
-use Rattle.nets.specs.Sweeps.{full, sweep_net}
-use Rattle.nets.specs.SweepsLemmas.{sum_fits, turn_full, turn_carried, count_more, byte_le}
+use Rattle.ranges.proofs.Sums.{count_le, count_here, count_past}
+use Rattle.ranges.proofs.Marks.{marks_chosen, byte_bit}
+use Rattle.nets.specs.Sweeps.{carried, full, sweep_net}
+use Rattle.nets.specs.SweepsLemmas.{sum_fits, turn_marked, turn_passed}
 use Rattle.nets.proofs.sweep.sweep_marks.Goals as goal
+use Rattle.nets.proofs.sweep.sweep_marks.Goals.{then-full, else-full}
 
 pub overflow_add-sum : goal.overflow_add-sum
-overflow_add-sum c =
-    record { fits = sum_fits c.args.k c.args.weights.now c.loop-i.i c.loop-i.sum c.loop-i.invariant.0 c.loop-i-test.true (omega arith) }
+overflow_add-sum g c =
+    let w = c.args.weights.now in
+    let i = c.loop-p.p in
+    record { fits = omega (arith, sum_fits c.args.k w.each.now i c.loop-p.sum c.loop-p.invariant.0 (omega (arith, c.requires)) (omega (arith, w.added, w.small)), ap (λ ws. get_or ws i 0) c.each-each.ensures) }
 
 pub overflow_add-count : goal.overflow_add-count
-overflow_add-count c =
-    omega (arith, count_le (full c.args.k c.args.weights.now) c.loop-i.i, c.loop-i.invariant.1, byte_le c.carry_on-full.result.0)
-
-pub loop-i-preserved : goal.loop-i-preserved
-loop-i-preserved c =
-    let k = c.args.k in
-    let ws = c.args.weights.now in
-    let i = c.loop-i.i in
-    let is-full = turn_full k ws i c.loop-i.sum c.args.whole c.carry_on-full.result c.loop-i.invariant.0 c.requires.whole c.carry_on-full.ensures in
-    let written : c.write_mark.new.marks ≡ set c.loop-i.marks i (cond (full k ws i) 1 0) = c.write_mark.ensures ∙ ap (λ b. set c.loop-i.marks i (cond b 1 0)) is-full in
-    let l : i < length c.loop-i.marks = omega arith in (
-      turn_carried k ws i c.loop-i.sum c.args.whole c.carry_on-full.result c.loop-i.invariant.0 c.requires.whole c.carry_on-full.ensures,
-      count_more (full k ws) i c.loop-i.count c.from-count.result c.carry_on-full.result.0 c.loop-i.invariant.1 c.from-count.ensures is-full,
-      λ p b. ap (λ ms. get_or ms p 0) written ∙ fill_by_more (λ q. cond (full k ws q) 1 0) c.loop-i.marks i 0 l c.loop-i.invariant.2 p b,
-    )
+overflow_add-count g c =
+    let w = c.args.weights.now in
+    omega (arith, count_le (full c.args.k w.each.now) c.loop-p.p, c.loop-p.invariant.1, w.within.few_points, w.long, c.requires)
 
 pub returns : goal.returns
-returns c =
+returns g c =
     let k = c.args.k in
-    let ws = c.args.weights.now in
-    let end : c.loop-i.i ≡ length ws = omega arith in
-    let marks : c.loop-i.marks ≡ sweep_net k ws = fill_by_all (λ q. cond (full k ws q) 1 0) c.loop-i.marks (length ws) 0 (omega arith) (λ p b. c.loop-i.invariant.2 p (omega arith)) in
-    record { marks = marks; count = c.loop-i.invariant.1 ∙ ap (count_below (full k ws)) end ∙ sym (ap chosen marks ∙ marks_chosen (full k ws) (length ws)) }
+    let ws = c.args.weights.now.each.now in
+    let end : c.loop-p.p ≡ length ws = omega (arith, c.requires) in
+    let marks : c.loop-p.marks ≡ sweep_net k ws = fill_by_all (λ q. cond (full k ws q) 1 0) c.loop-p.marks (length ws) 0 (omega (arith, c.requires)) (λ p b. c.loop-p.invariant.2 p (omega arith)) in
+    record { marks = marks; count = c.loop-p.invariant.1 ∙ ap (count_below (full k ws)) end ∙ sym (ap chosen marks ∙ marks_chosen (full k ws) (length ws)) }
+
+pub loop-p-preserved : goal.loop-p-preserved
+loop-p-preserved g c =
+    let k = c.args.k in
+    let ws = c.args.weights.now.each.now in
+    let i = c.loop-p.p in
+    let weight = ap (λ xs. get_or xs i 0) c.each-each.ensures in
+    let l : i < length c.loop-p.marks = omega (arith, c.loop-p-test.true) in
+    let turn : (c.if-full.sum ≡ carried k ws (i + 1)) × (c.if-full.count ≡ count_below (full k ws) (i + 1)) × (c.is_heavy-full.result ≡ full k ws i) =
+    elim c.if-full.branch [
+      | then-full w ↦ (
+          let at = turn_marked k ws i c.loop-p.sum c.total.result _ c.loop-p.invariant.0 c.total.ensures weight (sym c.is_heavy-full.ensures ∙ w.if-full.true) in
+          (w.sum-is ∙ at.0, omega (arith, w.count-is, c.loop-p.invariant.1, count_here (full k ws) i at.1), w.if-full.true ∙ sym at.1))
+      | else-full w ↦ (
+          let at = turn_passed k ws i c.loop-p.sum c.total.result _ c.loop-p.invariant.0 c.total.ensures weight (sym c.is_heavy-full.ensures ∙ w.if-full.false) in
+          (w.sum-is ∙ at.0, omega (arith, w.count-is, c.loop-p.invariant.1, count_past (full k ws) i at.1), w.if-full.false ∙ sym at.1))
+    ] in (
+      turn.0,
+      turn.1,
+      λ p b. ap (λ x. get_or (set c.loop-p.marks i x) p 0) (c.from.ensures ∙ byte_bit c.is_heavy-full.result ∙ ap (λ b. cond b 1 0) turn.2) ∙ fill_by_more (λ q. cond (full k ws q) 1 0) c.loop-p.marks i 0 l c.loop-p.invariant.2 p b,
+    )
