@@ -1,8 +1,8 @@
 -- The bytes of the points and the flags of the ranges, as they change during a call.
-use Rattle.std.proofs.Common.{◌≡◌, ℕ, ◌+◌, ◌-◌, ◌<◌, Bool, true, false, cond, not, ◌&&◌, ◌||◌, eqb, ltb, ◌⊎◌, List, length, get_or, set, sym, refl, ap, ◌∙◌, subst, inl, inr, arith}
+use Rattle.std.proofs.Common.{◌≡◌, ℕ, ◌+◌, ◌-◌, ◌<◌, Bool, true, false, cond, not, ◌&&◌, ◌||◌, eqb, ltb, ◌⊎◌, List, length, get_or, set, replicate, sym, refl, ap, ◌∙◌, subst, inl, inr, arith}
 use mathlib.Core.Path.{fun_ext}
 use Rattle.std.proofs.lemmas.Bool.{and_parts, cases_Bool, cases_eq, cases_lt, eq-eqb, ne_eqb, ltb-true, ltb-false}
-use Rattle.std.proofs.lemmas.List.{set-get_or, get_or_past, get_or-set_same, get_or-set_other}
+use Rattle.std.proofs.lemmas.List.{set-get_or, get_or_past, length-replicate, get_or-replicate, get_or-set_same, get_or-set_other}
 use Rattle.std.proofs.lemmas.List.FromFn.{length-map-range_with_len, get_or-map-range_with_len}
 use Rattle.ranges.specs.Spaces.{RangeSpace}
 use Rattle.ranges.specs.Weights.{tabulated}
@@ -39,15 +39,15 @@ taken_adding ms q l = fun_ext (at_set ms q 255 l (λ p x. eqb x 255 ≡ (taken m
     other false b e = e
 
 -- at the start no byte says anything
-pub taken_none : (n : ℕ) → taken (tabulated (λ _. 254) n) ≡ (λ _. false)
+pub taken_none : (n : ℕ) → taken (replicate n 254) ≡ (λ _. false)
 taken_none n = fun_ext (λ p. elim (cases_lt p n) [
-  | inl l ↦ ap (λ x. eqb x 255) (get_or-map-range_with_len (λ _. 254) 0 n p p 0 l (omega arith))
-  | inr g ↦ ap (λ x. eqb x 255) (get_or_past (tabulated (λ _. 254) n) p 0 (omega (arith, length-map-range_with_len {X = ℕ} (λ _. 254) 0 n)))
+  | inl l ↦ ap (λ x. eqb x 255) (get_or-replicate n p 254 0 l)
+  | inr g ↦ ap (λ x. eqb x 255) (get_or_past (replicate n 254) p 0 (omega (arith, length-replicate {A = ℕ} n 254)))
 ])
 
-pub known_none : (S : RangeSpace) (fs : List ℕ) → Known S fs (tabulated (λ _. 254) S.points)
+pub known_none : (S : RangeSpace) (fs : List ℕ) → Known S fs (replicate S.points 254)
 known_none S fs p l =
-    let byte = get_or-map-range_with_len {X = ℕ} (λ _. 254) 0 S.points p p 0 l (omega arith) in
+    let byte = get_or-replicate {A = ℕ} S.points p 254 0 l in
     ((λ e. absurd (omega arith)), (λ e. absurd (omega arith)))
 
 -- the flag of range i is lowered, and its points have one less to gain

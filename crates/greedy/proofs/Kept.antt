@@ -12,7 +12,7 @@ use Rattle.nets.specs.Finders.{Asked}
 use Rattle.greedy.specs.Greedy.{unhit, gain, best_below, best_point, adding, greedy_set, greedy_points}
 use Rattle.greedy.specs.Flags.{bit, flagged, flag_gain, flag_best, lowered, taken, Known}
 use Rattle.greedy.specs.Doubles.{count_same, count_none, count_some}
-use Rattle.greedy.specs.Sets.{length_marks, get_d_marks, marks_marked}
+use Rattle.ranges.proofs.Marks.{marks_long, marks_at, marks_marked}
 use Rattle.greedy.proofs.Overs.{tab_same}
 use Rattle.greedy.specs.Runs.{stays, goes}
 use Rattle.greedy.specs.Marks.{unhit_adding, left_adding, best_share}
@@ -35,7 +35,7 @@ unhit_none S k ws = fun_ext (λ j. each (heavy S k ws j) (hit S (λ _. false) j)
     each true b e = ap not e
     each false b e = refl
 
-pub kept_start : (S : RangeSpace) (k : ℕ) (ws fs ms : List ℕ) (u : ℕ) → fs ≡ tabulated (λ j. bit (heavy S k ws j)) S.ranges → u ≡ count_below (heavy S k ws) S.ranges → ms ≡ tabulated (λ _. 254) S.points → Kept S k ws fs ms u 0
+pub kept_start : (S : RangeSpace) (k : ℕ) (ws fs ms : List ℕ) (u : ℕ) → fs ≡ tabulated (λ j. bit (heavy S k ws j)) S.ranges → u ≡ count_below (heavy S k ws) S.ranges → ms ≡ replicate S.points 254 → Kept S k ws fs ms u 0
 kept_start S k ws fs ms u f l m =
     let none : taken ms ≡ (λ _. false) = ap taken m ∙ taken_none S.points in
     let all : unhit S k ws (taken ms) ≡ heavy S k ws = ap (unhit S k ws) none ∙ unhit_none S k ws in
@@ -49,7 +49,7 @@ kept_start S k ws fs ms u f l m =
 
 module _ (S : RangeSpace) (k : ℕ) (ws fs ms : List ℕ) (u c : ℕ) (asked : Asked S k ws) (kept : Kept S k ws fs ms u c) where
   flag_at : (j : ℕ) → j < S.ranges → get_or fs j 0 ≡ bit (unhit S k ws (taken ms) j)
-  flag_at j l = ap (λ xs. get_or xs j 0) kept.flags ∙ get_d_marks (unhit S k ws (taken ms)) S.ranges j l
+  flag_at j l = ap (λ xs. get_or xs j 0) kept.flags ∙ marks_at (unhit S k ws (taken ms)) S.ranges j l
 
   flagged_at : (j : ℕ) → j < S.ranges → flagged fs j ≡ unhit S k ws (taken ms) j
   flagged_at j l = ap (λ xs. flagged xs j) kept.flags ∙ marks_marked (unhit S k ws (taken ms)) S.ranges j l
@@ -126,8 +126,8 @@ module _ (S : RangeSpace) (k : ℕ) (ws fs ms : List ℕ) (u c : ℕ) (asked : A
 
   pub kept_flags : u ≡ 0 → fs ≡ replicate S.ranges 0
   kept_flags e =
-      let long = length_marks (unhit S k ws (taken ms)) S.ranges in
+      let long = marks_long (unhit S k ws (taken ms)) S.ranges in
       kept.flags
       ∙ ext_get_or 0 (tabulated (λ j. bit (unhit S k ws (taken ms) j)) S.ranges) (replicate S.ranges 0) (long ∙ sym (length-replicate S.ranges 0)) (λ j l.
       (let m : j < S.ranges = omega arith in
-      get_d_marks (unhit S k ws (taken ms)) S.ranges j m ∙ ap bit (any_absent (unhit S k ws (taken ms)) S.ranges (none_left e) j m) ∙ sym (get_or-replicate S.ranges j 0 0 m)))
+      marks_at (unhit S k ws (taken ms)) S.ranges j m ∙ ap bit (any_absent (unhit S k ws (taken ms)) S.ranges (none_left e) j m) ∙ sym (get_or-replicate S.ranges j 0 0 m)))

@@ -12,7 +12,7 @@ use Rattle.ranges.proofs.Searches.{any_decides}
 use Rattle.ranges.proofs.Hits.{hit_gives}
 use Rattle.nets.specs.Finders.{Asked, Net, FinderSound}
 use Rattle.greedy.specs.Greedy.{unhit, gain, best_point, adding, greedy_set, greedy_points, greedy_net, greedy_bound, greedy_finder, digits}
-use Rattle.greedy.specs.Sets.{length_marks, marks_bit, marks_marked, marks_chosen}
+use Rattle.ranges.proofs.Marks.{marks_long, marks_bits, marks_marked, marks_chosen}
 use Rattle.greedy.specs.Doubles.{count_none, count_some}
 use Rattle.greedy.specs.Runs.{Turns, all_done, few_turns}
 use Rattle.greedy.specs.Marks.{left_adding, gain_new, made_adding, best_share}
@@ -75,8 +75,8 @@ module _ (S : RangeSpace) (k : ℕ) (ws : List ℕ) (asked : Asked S k ws) where
 
   pub greedy_net_lem : Net S k ws (greedy_bound S.points S.ranges k) (greedy_net S k ws)
   greedy_net_lem = record {
-    long = length_marks (greedy_points S k ws) S.points;
-    bits = marks_bit (greedy_points S k ws) S.points;
+    long = marks_long (greedy_points S k ws) S.points;
+    bits = marks_bits (greedy_points S k ws) S.points;
     hits = λ j l h. (
         let w = greedy_hits j l h in
         (w.0, marks_marked (greedy_points S k ws) S.points w.0 (asked.within.inside j w.0 w.2).1 ∙ w.1, w.2)

@@ -1,7 +1,6 @@
 pub mod Greedy
 pub mod Flags
 pub mod Law
-pub mod Sets
 pub mod Doubles
 pub mod Runs
 pub mod Marks

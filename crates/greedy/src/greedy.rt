@@ -10,7 +10,7 @@ use nets::finder::{Finder, check_find};
 use ranges::number::{PointNumber, RangeNumber};
 use ranges::refusal::Refusal;
 use ranges::space::Space;
-use ranges::weight::{is_heavy, range_weight, total_weight};
+use ranges::weight::Weights;
 
 // A flag that is up: the range is heavy and not yet hit.
 const UNHIT: u8 = 1;
@@ -47,8 +47,8 @@ impl<S: Space> Finder<S> for Greedy {
         scratch: &mut [u8],
     ) -> Result<u16, Refusal> {
         let need = s.ranges() as usize;
-        check_find(s, k, weights, marks.len(), scratch.len(), need)?;
-        Ok(mark_net(s, k, weights, marks, &mut scratch[0..need]))
+        let weights = check_find(s, k, weights, marks.len(), scratch.len(), need)?;
+        Ok(mark_net(&weights, k, marks, &mut scratch[0..need]))
     }
 }
 
@@ -68,30 +68,36 @@ fn digit_count(m: u16) -> u32
 }
 
 // Marks the net; answers how many points it has.
-fn mark_net<S: Space>(s: &S, k: u16, weights: &[u64], marks: &mut [u8], flags: &mut [u8]) -> u16
-    requires asked { Asked (S.Space.meaning s.now) k weights.now }
-    requires wide { length flags.old ≡ (S.Space.meaning s.now).ranges }
-    requires long { length marks.old ≡ (S.Space.meaning s.now).points }
-    ensures marks { marks.new ≡ greedy_net (S.Space.meaning s.now) k weights.now }
+fn mark_net<S: Space>(weights: &Weights<'_, S>, k: u16, marks: &mut [u8], flags: &mut [u8]) -> u16
+    requires asked { Asked (S.Space.meaning weights.now.space.now) k weights.now.each.now }
+    requires wide { length flags.old ≡ (S.Space.meaning weights.now.space.now).ranges }
+    requires long { length marks.old ≡ (S.Space.meaning weights.now.space.now).points }
+    ensures marks { marks.new ≡ greedy_net (S.Space.meaning weights.now.space.now) k weights.now.each.now }
     ensures count { result ≡ chosen marks.new }
-    ensures flags { flags.new ≡ replicate (S.Space.meaning s.now).ranges 0 }
+    ensures flags { flags.new ≡ replicate (S.Space.meaning weights.now.space.now).ranges 0 }
 {
-    let count = cover_heavy(s, k, weights, marks, flags);
+    let count = cover_heavy(weights, k, marks, flags);
     settle_marks(marks);
     count
 }
 
 // Marks points by their bytes until every heavy range is hit; answers how many.
-fn cover_heavy<S: Space>(s: &S, k: u16, weights: &[u64], marks: &mut [u8], flags: &mut [u8]) -> u16
-    requires asked { Asked (S.Space.meaning s.now) k weights.now }
-    requires wide { length flags.old ≡ (S.Space.meaning s.now).ranges }
-    requires long { length marks.old ≡ (S.Space.meaning s.now).points }
-    ensures flags { flags.new ≡ replicate (S.Space.meaning s.now).ranges 0 }
-    ensures points { taken marks.new ≡ greedy_points (S.Space.meaning s.now) k weights.now }
-    ensures count { result ≡ count_below (greedy_points (S.Space.meaning s.now) k weights.now) (S.Space.meaning s.now).points }
+fn cover_heavy<S: Space>(
+    weights: &Weights<'_, S>,
+    k: u16,
+    marks: &mut [u8],
+    flags: &mut [u8],
+) -> u16
+    requires asked { Asked (S.Space.meaning weights.now.space.now) k weights.now.each.now }
+    requires wide { length flags.old ≡ (S.Space.meaning weights.now.space.now).ranges }
+    requires long { length marks.old ≡ (S.Space.meaning weights.now.space.now).points }
+    ensures flags { flags.new ≡ replicate (S.Space.meaning weights.now.space.now).ranges 0 }
+    ensures points { taken marks.new ≡ greedy_points (S.Space.meaning weights.now.space.now) k weights.now.each.now }
+    ensures count { result ≡ count_below (greedy_points (S.Space.meaning weights.now.space.now) k weights.now.each.now) (S.Space.meaning weights.now.space.now).points }
 {
-    let mut unhit = flag_heavy(s, k, weights, flags);
-    forget_gains(marks);
+    let s = weights.space();
+    let mut unhit = flag_heavy(weights, k, flags);
+    marks.fill(UNKNOWN);
     let mut count: u16 = 0;
     while unhit > 0 {
         unhit -= mark_best(s, flags, marks);
@@ -101,33 +107,18 @@ fn cover_heavy<S: Space>(s: &S, k: u16, weights: &[u64], marks: &mut [u8], flags
 }
 
 // Raises the flags of the heavy ranges; answers how many there are.
-fn flag_heavy<S: Space>(s: &S, k: u16, weights: &[u64], flags: &mut [u8]) -> u16
-    requires small { total weights.now ≤ 2 ^ 49 }
-    requires wide { length flags.old ≡ (S.Space.meaning s.now).ranges }
-    ensures flags { flags.new ≡ tabulated (λ j. bit (heavy (S.Space.meaning s.now) k weights.now j)) (S.Space.meaning s.now).ranges }
-    ensures count { result ≡ count_below (heavy (S.Space.meaning s.now) k weights.now) (S.Space.meaning s.now).ranges }
+fn flag_heavy<S: Space>(weights: &Weights<'_, S>, k: u16, flags: &mut [u8]) -> u16
+    requires wide { length flags.old ≡ (S.Space.meaning weights.now.space.now).ranges }
+    ensures flags { flags.new ≡ tabulated (λ j. bit (heavy (S.Space.meaning weights.now.space.now) k weights.now.each.now j)) (S.Space.meaning weights.now.space.now).ranges }
+    ensures count { result ≡ count_below (heavy (S.Space.meaning weights.now.space.now) k weights.now.each.now) (S.Space.meaning weights.now.space.now).ranges }
 {
-    let whole = total_weight(weights);
     let mut count: u16 = 0;
-    for j in 0..s.ranges() {
-        let flag = first_flag(s, k, weights, whole, RangeNumber(j));
-        flags[j as usize] = flag;
-        count += flag as u16;
+    for (j, flag) in flags.iter_mut().enumerate() {
+        let heavy = weights.is_heavy(k, RangeNumber(j as u16));
+        *flag = u8::from(heavy);
+        count += u16::from(heavy);
     }
     count
-}
-
-// The flag of range j before a point is marked.
-fn first_flag<S: Space>(s: &S, k: u16, weights: &[u64], whole: u64, j: RangeNumber) -> u8
-    requires small { total weights.now ≤ 2 ^ 49 }
-    requires whole { whole ≡ total weights.now }
-    ensures { result ≡ bit (heavy (S.Space.meaning s.now) k weights.now j.0) }
-{
-    if is_heavy(k, range_weight(s, weights, j), whole) {
-        UNHIT
-    } else {
-        0
-    }
 }
 
 // Marks the best point; answers how many flags are lowered.
@@ -156,36 +147,36 @@ fn best_point<S: Space>(s: &S, flags: &[u8], marks: &mut [u8]) -> PointNumber
     ensures known { Known (S.Space.meaning s.now) flags.now marks.new }
     ensures taken { taken marks.new ≡ taken marks.old }
 {
-    let mut best = Best { point: 0, gain: 0 };
+    let mut best = Best {
+        point: PointNumber(0),
+        gain: 0,
+    };
+    // by numbers of 16 bits, since `enumerate` would cast each back, and no proof goes through a zip with `iter_mut`
     for p in 0..s.points() {
-        let gain = known_gain(s, flags, PointNumber(p), &mut marks[p as usize]);
-        best = better(best, p, gain);
+        let point = PointNumber(p);
+        let gain = known_gain(s, flags, point, &mut marks[p as usize]);
+        best = better(best, Best { point, gain });
     }
-    PointNumber(best.point)
+    best.point
 }
 
 // The best point so far, and its gain.
 #[derive(Clone, Copy)]
 struct Best {
-    point: u16,
+    point: PointNumber,
     gain: u16,
 }
 
 // A later point is better only with a larger gain.
-fn better(best: Best, p: u16, gain: u16) -> Best
-    ensures point { result.point ≡ (if nat_lt best.gain gain then p else best.point) }
-    ensures gain { result.gain ≡ max best.gain gain }
+fn better(best: Best, next: Best) -> Best
+    ensures point { result.point.0 ≡ (if nat_lt best.gain next.gain then next.point.0 else best.point.0) }
+    ensures gain { result.gain ≡ max best.gain next.gain }
 {
-    if gain > best.gain {
-        Best { point: p, gain }
-    } else {
-        best
-    }
+    if next.gain > best.gain { next } else { best }
 }
 
 // The gain of point p: what its byte says, or counted where that says nothing.
 fn known_gain<S: Space>(s: &S, flags: &[u8], p: PointNumber, byte: &mut u8) -> u16
-    requires wide { length flags.now ≡ (S.Space.meaning s.now).ranges }
     requires known { Tells byte.old (flag_gain (S.Space.meaning s.now) flags.now p.0) }
     ensures value { result ≡ flag_gain (S.Space.meaning s.now) flags.now p.0 }
     ensures known { Tells byte.new (flag_gain (S.Space.meaning s.now) flags.now p.0) }
@@ -206,25 +197,18 @@ fn known_gain<S: Space>(s: &S, flags: &[u8], p: PointNumber, byte: &mut u8) -> u
 fn gain_byte(gain: u16) -> u8
     ensures { result ≡ min gain 254 }
 {
-    if gain < UNKNOWN as u16 {
-        gain as u8
-    } else {
-        UNKNOWN
-    }
+    gain.min(UNKNOWN as u16) as u8
 }
 
 // How many ranges with their flag up hold point p.
 fn count_gain<S: Space>(s: &S, flags: &[u8], p: PointNumber) -> u16
-    requires { length flags.now ≡ (S.Space.meaning s.now).ranges }
     ensures { result ≡ flag_gain (S.Space.meaning s.now) flags.now p.0 }
 {
-    let mut gain: u16 = 0;
-    for j in 0..s.ranges() {
-        if adds_gain(s, flags[j as usize], RangeNumber(j), p) {
-            gain += 1;
-        }
-    }
-    gain
+    (0..s.ranges())
+        .map(RangeNumber)
+        .zip(flags)
+        .filter(|(j, flag)| adds_gain(s, **flag, *j, p))
+        .count() as u16
 }
 
 // Whether range j adds to the gain of point p.
@@ -245,6 +229,7 @@ fn lower_flags<S: Space>(s: &S, flags: &mut [u8], marks: &mut [u8], p: PointNumb
     ensures count { result ≡ flag_gain (S.Space.meaning s.now) flags.old p.0 }
 {
     let mut gain: u16 = 0;
+    // by number, as in `best_point`
     for j in 0..s.ranges() {
         if lower_flag(s, &mut flags[j as usize], RangeNumber(j), p) {
             lower_gains(s, marks, RangeNumber(j));
@@ -271,6 +256,7 @@ fn lower_gains<S: Space>(s: &S, marks: &mut [u8], j: RangeNumber)
     requires { length marks.old ≡ (S.Space.meaning s.now).points }
     ensures { marks.new ≡ tabulated (less_held (S.Space.meaning s.now) j.0 marks.old) (S.Space.meaning s.now).points }
 {
+    // by number, as in `best_point`
     for p in 0..s.points() {
         lower_gain(s, &mut marks[p as usize], j, PointNumber(p));
     }
@@ -282,15 +268,6 @@ fn lower_gain<S: Space>(s: &S, byte: &mut u8, j: RangeNumber, p: PointNumber)
 {
     if s.holds(j, p) && *byte < UNKNOWN {
         *byte = byte.saturating_sub(1);
-    }
-}
-
-// No gain is known yet.
-fn forget_gains(marks: &mut [u8])
-    ensures { marks.new ≡ tabulated (λ _. 254) (length marks.old) }
-{
-    for byte in marks.iter_mut() {
-        *byte = UNKNOWN;
     }
 }
 
@@ -307,5 +284,5 @@ fn settle_marks(marks: &mut [u8])
 fn final_mark(byte: u8) -> u8
     ensures { result ≡ bit (byte == 255) }
 {
-    if byte == MARKED { 1 } else { 0 }
+    u8::from(byte == MARKED)
 }

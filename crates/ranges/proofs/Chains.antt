@@ -4,7 +4,8 @@ use Rattle.std.specs.List.{filter, sum_by}
 use Rattle.std.proofs.lemmas.Bool.{cases_Bool}
 use Rattle.std.proofs.lemmas.List.Sums.{sum_by-append, sum_by-cons, sum_by_push}
 use Rattle.std.proofs.lemmas.List.FromFn.{filter_of_map_range_with_len_more}
-use Rattle.ranges.specs.Below.{sum_below}
+use Rattle.std.specs.List.{zip}
+use Rattle.ranges.specs.Below.{sum_below, count_below}
 use Rattle.std.specs.Fn.{Called}
 use Rattle.std.specs.Iterator.{Drains}
 use Rattle.std.specs.List.{FoldsTo}
@@ -12,7 +13,7 @@ use Rattle.std.proofs.lemmas.Fn.{fold_over}
 use Rattle.std.proofs.lemmas.Iterator.{YieldsList}
 use Rattle.ranges.specs.Weights.{capped, range_of}
 use Rattle.ranges.specs.declared.number.RangeNumber.{RangeNumber}
-use Rattle.ranges.proofs.Sums.{sum_suc, sum_front}
+use Rattle.ranges.proofs.Sums.{sum_suc, sum_front, sum_same, sum_zero}
 use denote.Param.Members.{Mut}
 use Rattle.std.specs.Bool.{MatchBool}
 use Rattle.std.specs.Option.{MatchOption}
@@ -85,3 +86,21 @@ sum_by_places (w ∷ ws) =
 pub range_found : (r : Option RangeNumber) (o : Option ℕ) → MatchOption r (o ≡ None) (λ j. o ≡ Some j.0) → range_of r ≡ o
 range_found None o e = sym e
 range_found (Some j) o e = sym e
+
+-- how many of the numbers below n pass with the byte that a list has for them, where no number passes with 0
+module _ {X : Type 0} (mk : ℕ → X) (t : X → ℕ → Bool) (none : (x : X) → t x 0 ≡ false) where
+  zipped : (a n : ℕ) (bs : List ℕ) → length (filter (λ q. t q.0 q.1) (zip (map mk (range_with_len a n)) bs)) ≡ count_below (λ i. t (mk (a + i)) (get_or bs i 0)) n
+  zipped a zero bs = refl
+  zipped a (suc n) [] = sym (sum_zero (λ i. cond (t (mk (a + i)) 0) 1 0) (suc n) (λ i l. ap (λ b. cond b 1 0) (none (mk (a + i)))))
+  zipped a (suc n) (b ∷ bs) =
+      let front : count_below (λ i. t (mk (a + i)) (get_or (b ∷ bs) i 0)) (suc n) ≡ cond (t (mk (a + 0)) b) 1 0 + sum_below (λ i. cond (t (mk (a + suc i)) (get_or bs i 0)) 1 0) n = sum_front (λ i. cond (t (mk (a + i)) (get_or (b ∷ bs) i 0)) 1 0) n in
+      let same = sum_same (λ i. cond (t (mk (a + 1 + i)) (get_or bs i 0)) 1 0) (λ i. cond (t (mk (a + suc i)) (get_or bs i 0)) 1 0) n (λ i l. ap (λ k. cond (t (mk k) (get_or bs i 0)) 1 0) (omega arith)) in
+      let first : ◌≡◌ {A = ℕ} (cond (t (mk (a + 0)) b) 1 0) (cond (t (mk a) b) 1 0) = ap (λ k. cond (t (mk k) b) 1 0) (omega arith) in
+      one (t (mk a) b) ∙ omega (arith, zipped (a + 1) n bs, front, same, first)
+    where
+      one : (c : Bool) → length (cond c ((mk a, b) ∷ filter (λ q. t q.0 q.1) (zip (map mk (range_with_len (a + 1) n)) bs)) (filter (λ q. t q.0 q.1) (zip (map mk (range_with_len (a + 1) n)) bs))) ≡ cond c 1 0 + length (filter (λ q. t q.0 q.1) (zip (map mk (range_with_len (a + 1) n)) bs))
+      one true = omega arith
+      one false = omega arith
+
+  pub count_zipped : (n : ℕ) (bs : List ℕ) → length (filter (λ q. t q.0 q.1) (zip (numbers mk n) bs)) ≡ count_below (λ i. t (mk i) (get_or bs i 0)) n
+  count_zipped n bs = zipped 0 n bs ∙ sum_same _ _ n (λ i l. ap (λ k. cond (t (mk k) (get_or bs i 0)) 1 0) (omega arith))

@@ -70,7 +70,7 @@ impl<'a, S: Space> Weights<'a, S> {
 
     // The space whose points are weighed.
     pub fn space(&self) -> &'a S
-        ensures { S.Space.meaning result.now ≡ S.Space.meaning self.now.space.now }
+        ensures { result.now ≡ self.now.space.now }
     {
         self.space
     }

@@ -6,5 +6,5 @@ use Rattle.greedy.proofs.greedy.flag_heavy.Given as goal
 
 abbrev pub invariant-loop-j : goal.invariant-loop-j
 invariant-loop-j g l =
-    (l.flags ≡ over (λ j. bit (heavy (g.S.Space.meaning l.s) l.k l.weights j)) l.j l.initial.flags)
-    × (l.count ≡ count_below (heavy (g.S.Space.meaning l.s) l.k l.weights) l.j)
+    (l.flags ≡ over (λ j. bit (heavy (g.S.Space.meaning l.weights.space.now) l.k l.weights.each.now j)) l.j l.initial.flags)
+    × (l.count ≡ count_below (heavy (g.S.Space.meaning l.weights.space.now) l.k l.weights.each.now) l.j)
