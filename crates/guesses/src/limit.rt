@@ -1,5 +1,5 @@
 // How many doublings a guess may take.
-ghost use Rattle.std.specs.Prelude.{◌≡◌, ◌*◌, ◌^◌, ◌<◌, ◌≤◌};
+ghost use Rattle.std.specs.Prelude.{[], ◌∷◌, ◌≡◌, ◌*◌, ◌^◌, ◌<◌, ◌≤◌};
 ghost use Rattle.guesses.specs.Limits.{steps, fourth, doublings_of, limit_if, LimitLaw, WorkedLimits};
 
 fn fourth_power(x: u16) -> u64
@@ -46,9 +46,18 @@ pub fn limit(n: u16, k: u16) -> Option<u16>
     Some(k * doublings_each(n, k))
 }
 
-// The worked limits, settled by proof.
-pub fn worked_limits() -> u8
-    ensures { WorkedLimits }
+// The worked limits.
+pub fn worked_limits() -> [Option<u16>; 7]
+    ensures value { result ≡ Some 1 ∷ Some 9 ∷ Some 10 ∷ Some 6 ∷ Some 4 ∷ Some 49 ∷ Some 4096 ∷ [] }
+    ensures worked { WorkedLimits }
 {
-    0
+    [
+        limit(1, 1),
+        limit(4, 1),
+        limit(4, 2),
+        limit(4, 3),
+        limit(4, 4),
+        limit(4096, 1),
+        limit(4096, 4096),
+    ]
 }
