@@ -1,6 +1,10 @@
 // The book of the guesses: what was guessed, how many doublings it took, and what came of it.
 ghost use Rattle.std.specs.Prelude.{◌≡◌, ◌+◌, ◌-◌, ◌<◌, ◌≤◌, [], ◌∷◌, ◌++◌, length, if◌then◌else◌, nat_lt, slice_set};
+ghost use Rattle.std.specs.Prelude.{Some};
+ghost use Rattle.guesses.specs.Texts.{verdict_text, line_text};
 ghost use Rattle.guesses.specs.Books.{book_lines, empty_book, book_length, book_added, book_rewritten, line_at, Placed};
+
+use std::fmt;
 
 #[derive(Clone, Copy, Debug, PartialEq, Eq)]
 pub enum Verdict {
@@ -10,6 +14,19 @@ pub enum Verdict {
     GivenUp,
 }
 
+impl fmt::Display for Verdict {
+    ghost output = { λ v. Some (verdict_text v) };
+
+    fn fmt<W: fmt::Write>(&self, f: &mut fmt::Formatter<W>) -> fmt::Result {
+        match *self {
+            Verdict::Open => write!(f, "open"),
+            Verdict::Hit(points) => write!(f, "hit {points}"),
+            Verdict::RuledOut => write!(f, "ruled out"),
+            Verdict::GivenUp => write!(f, "given up"),
+        }
+    }
+}
+
 #[derive(Clone, Copy, Debug, PartialEq, Eq)]
 pub struct GuessLine {
     pub k: u16,
@@ -17,7 +34,20 @@ pub struct GuessLine {
     pub verdict: Verdict,
 }
 
-// A fixed number of places with the count of the used ones beside it, since a book lives without a heap and its form is agreed.
+impl fmt::Display for GuessLine {
+    ghost output = { λ l. Some (line_text l) };
+
+    fn fmt<W: fmt::Write>(&self, f: &mut fmt::Formatter<W>) -> fmt::Result {
+        let GuessLine {
+            k,
+            doublings,
+            verdict,
+        } = *self;
+        write!(f, "guess {k} doublings {doublings} {verdict}")
+    }
+}
+
+// The project's scope fixes this form, 24 places and how many of them are used, and that a line changes through `&mut self`.
 #[derive(Clone, Copy)]
 pub struct Book {
     lines: [GuessLine; 24],
