@@ -12,20 +12,13 @@ fn fourth_power(x: u16) -> u64
     s * s
 }
 
-// How often `p` is doubled until it is above `q`.
+// How often `p` is doubled until it is above `q`: once for each binary digit of `q / p`.
+#[tactic(auto, using(crate::proofs::Limits::steps_digits))]
 fn doublings(p: u64, q: u64) -> u16
     requires some { 0 < p }
-    requires least { p ≤ 2 ^ 48 }
-    requires most { q ≤ 2 ^ 48 }
     ensures value { result ≡ steps 64 p q }
 {
-    let mut p = p;
-    let mut t: u16 = 0;
-    while p <= q && t < 64 {
-        p *= 2;
-        t += 1;
-    }
-    t
+    (64 - (q / p).leading_zeros()) as u16
 }
 
 // The guess that k of n points are enough: k is from 1 to n, and there are at most 4,096 points.
