@@ -1,6 +1,9 @@
 -- The least doublings of a guess, and its limit.
-use Rattle.std.proofs.Common.{◌≡◌, ℕ, zero, suc, ◌+◌, ◌-◌, ◌*◌, ◌^◌, ◌<◌, ◌≤◌, cond, ltb, refl, ap, ◌∙◌, inl, inr, mul-le-mul_left, mul-pos, pow-suc, one-add, arith}
+use Rattle.std.proofs.Common.{◌≡◌, ℕ, zero, suc, ◌+◌, ◌-◌, ◌*◌, ◌^◌, ◌<◌, ◌≤◌, cond, ltb, refl, inl, inr, ◌/◌, mul-le-mul_left, mul-le-mul_right, pow_mono, pow-add, mul-pos, pow-suc, one-add, arith}
 use native.Mathlib.Nat.{pow-zero}
+use Rattle.std.specs.Int.Count.{count_leading_zeros}
+use Rattle.std.proofs.Math.Nat.{div-le_self, div-mul-le_self, mod-lt}
+use Rattle.std.proofs.lemmas.Nat.{leading_length, div-add-mod'}
 use Rattle.std.proofs.lemmas.Bool.{cases_lt}
 use Rattle.std.proofs.lemmas.Bool.Decides.{nat_tests}
 use Rattle.guesses.specs.Limits.{steps, fourth, doublings_of, limit_of, LeastDoublings, LimitLaw}
@@ -13,13 +16,6 @@ steps_none p q = refl
 step : (f p q : ℕ) → steps (suc f) p q ≡ cond (ltb q p) 0 (1 + steps f (p * 2) q)
 unfolding steps
 step f p q = refl
-
--- one doubling more
-pub steps_more : (t p q : ℕ) → t < 64 → p ≤ q → t + 1 + steps (64 - (t + 1)) (p * 2) q ≡ t + steps (64 - t) p q
-steps_more t p q within below =
-    let s : 64 - t ≡ suc (64 - (t + 1)) = omega arith in
-    let e = ap (λ f. steps f p q) s ∙ step (64 - (t + 1)) p q in
-    grind (arith, nat_tests)
 
 -- none is needed
 pub steps_done : (f p q : ℕ) → q < p → steps f p q ≡ 0
@@ -54,6 +50,25 @@ steps_least (suc f) p q (suc s) enough =
           let twice : 2 ^ suc s * p ≡ 2 ^ s * (p * 2) = rw (pow-suc 2 s) (omega arith) in
           let ih = steps_least f (p * 2) q s (omega arith) in
           rw (one_more f p q below) (omega arith)
+    ]
+
+-- p is doubled once for each binary digit of q / p
+pub steps_digits : (p q : ℕ) → 0 < p → q < 2 ^ 64 → 64 - count_leading_zeros 64 (q / p) ≡ steps 64 p q
+steps_digits p q some fits =
+    let digits = leading_length 64 (q / p) (omega (arith, div-le_self q p)) in
+    let m = digits.0 in
+    let is : 64 - count_leading_zeros 64 (q / p) ≡ m = omega (arith, digits.1) in
+    let least = mul-le-mul_right p digits.2 in
+    let up : q < 2 ^ m * p = omega (arith, div-add-mod' q p, mod-lt q some) in
+    let most = steps_least 64 p q m up in
+    elim (cases_lt (steps 64 p q) m) [
+      | inl less ↦
+          let more : steps 64 p q + 1 ≤ m = omega arith in
+          let twice : 2 ^ (steps 64 p q + 1) ≤ 2 ^ m = pow_mono more in
+          let half : 2 ^ steps 64 p q ≤ q / p = omega (arith, pow-add 2 (steps 64 p q) 1, digits.3) in
+          let low = mul-le-mul_right p half in
+          absurd (omega (arith, steps_enough 64 p q (omega arith), div-mul-le_self q p))
+      | inr all ↦ omega arith
     ]
 
 pub fourth_most : (n : ℕ) → n ≤ 4096 → fourth n ≤ 2 ^ 48

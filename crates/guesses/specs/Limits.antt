@@ -1,5 +1,5 @@
 -- The limit of a guess: how many doublings it may take.
-use Rattle.std.specs.Prelude.{◌≡◌, ℕ, zero, suc, ◌+◌, ◌*◌, ◌^◌, ◌<◌, ◌≤◌, cond, ◌||◌, Some, None, Option, ◌==◌, nat_lt}
+use Rattle.std.specs.Prelude.{◌≡◌, ℕ, zero, suc, ◌+◌, ◌*◌, ◌^◌, ◌<◌, ◌≤◌, Bool, cond, ◌||◌, Some, None, Option, ◌==◌, nat_lt}
 
 -- how often p is doubled until it is above q, at most f times
 unfoldable pub steps : ℕ → ℕ → ℕ → ℕ
@@ -22,9 +22,13 @@ pub record LeastDoublings (n k t : ℕ) : Type 0 where
   pub enough : fourth n < 2 ^ t * fourth k
   pub least : (s : ℕ) → fourth n < 2 ^ s * fourth k → t ≤ s
 
+-- k is not from 1 to n, or there are more than 4,096 points
+abbrev pub is_no_guess : ℕ → ℕ → Bool
+is_no_guess n k = k == 0 || (nat_lt n k || nat_lt 4096 n)
+
 -- a guess from 1 to n, among at most 4,096 points, has a limit, and no other has
 abbrev pub limit_if : ℕ → ℕ → Option ℕ
-limit_if n k = cond (k == 0 || (nat_lt n k || nat_lt 4096 n)) None (Some (limit_of n k))
+limit_if n k = cond (is_no_guess n k) None (Some (limit_of n k))
 
 -- the limit counts the least doublings, which are few, stays within three for each point, and is not 0
 abbrev pub LimitLaw : ℕ → ℕ → Type 0

@@ -1,8 +1,12 @@
 // The book of the guesses: what was guessed, how many doublings it took, and what came of it.
 ghost use Rattle.std.specs.Prelude.{◌≡◌, ◌+◌, ◌-◌, ◌<◌, ◌≤◌, [], ◌∷◌, ◌++◌, length, if◌then◌else◌, nat_lt, slice_set};
+ghost use Rattle.std.specs.Prelude.{Some};
+ghost use Rattle.guesses.specs.Texts.{verdict_text, line_text};
 ghost use Rattle.guesses.specs.Books.{book_lines, empty_book, book_length, book_added, book_rewritten, line_at, Placed};
 
-#[derive(Clone, Copy)]
+use std::fmt;
+
+#[derive(Clone, Copy, Debug, PartialEq, Eq)]
 pub enum Verdict {
     Open,
     Hit(u16),
@@ -10,13 +14,40 @@ pub enum Verdict {
     GivenUp,
 }
 
-#[derive(Clone, Copy)]
+impl fmt::Display for Verdict {
+    ghost output = { λ v. Some (verdict_text v) };
+
+    fn fmt<W: fmt::Write>(&self, f: &mut fmt::Formatter<W>) -> fmt::Result {
+        match *self {
+            Verdict::Open => write!(f, "open"),
+            Verdict::Hit(points) => write!(f, "hit {points}"),
+            Verdict::RuledOut => write!(f, "ruled out"),
+            Verdict::GivenUp => write!(f, "given up"),
+        }
+    }
+}
+
+#[derive(Clone, Copy, Debug, PartialEq, Eq)]
 pub struct GuessLine {
     pub k: u16,
     pub doublings: u16,
     pub verdict: Verdict,
 }
 
+impl fmt::Display for GuessLine {
+    ghost output = { λ l. Some (line_text l) };
+
+    fn fmt<W: fmt::Write>(&self, f: &mut fmt::Formatter<W>) -> fmt::Result {
+        let GuessLine {
+            k,
+            doublings,
+            verdict,
+        } = *self;
+        write!(f, "guess {k} doublings {doublings} {verdict}")
+    }
+}
+
+// The project's scope fixes this form, 24 places and how many of them are used, and that a line changes through `&mut self`.
 #[derive(Clone, Copy)]
 pub struct Book {
     lines: [GuessLine; 24],
@@ -40,19 +71,12 @@ impl Book {
         }
     }
 
-    // How many places are used, of those that there are.
-    fn held(&self) -> usize
-        ensures value { result ≡ book_length self.now }
+    // The lines, in order.
+    pub fn lines(&self) -> &[GuessLine]
+        ensures lines { result.now ≡ book_lines self.now }
         ensures placed { Placed self.now }
     {
-        // a slice, since of a slice it is known how long its list is
-        let lines: &[GuessLine] = &self.lines;
-        let places = lines.len();
-        if self.used < places {
-            self.used
-        } else {
-            places
-        }
+        self.lines.get(..self.used).unwrap_or(&self.lines)
     }
 
     // How many lines there are.
@@ -61,18 +85,14 @@ impl Book {
         ensures most { result ≤ 24 }
         ensures placed { Placed self.now }
     {
-        self.held()
+        self.lines().len()
     }
 
     // The line at the place i, counted from 0, if there are so many.
     pub fn line(&self, i: usize) -> Option<GuessLine>
         ensures { result ≡ line_at (book_lines self.now) i }
     {
-        if i < self.len() {
-            Some(self.lines[i])
-        } else {
-            None
-        }
+        self.lines().get(i).copied()
     }
 
     // Adds a line at the end; a full book stays as it is.

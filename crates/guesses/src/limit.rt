@@ -1,7 +1,8 @@
 // How many doublings a guess may take.
-ghost use Rattle.std.specs.Prelude.{◌≡◌, ◌*◌, ◌^◌, ◌<◌, ◌≤◌};
-ghost use Rattle.guesses.specs.Limits.{steps, fourth, doublings_of, limit_if, LimitLaw, WorkedLimits};
+ghost use Rattle.std.specs.Prelude.{[], ◌∷◌, MatchOption, IsTrue, Some, ◌≡◌, ◌*◌, ◌^◌, ◌<◌, ◌≤◌};
+ghost use Rattle.guesses.specs.Limits.{steps, fourth, doublings_of, is_no_guess, limit_of, limit_if, LimitLaw, WorkedLimits};
 
+#[tactic(auto, using(crate::proofs::Limits::fourth_most))]
 fn fourth_power(x: u16) -> u64
     requires { x ≤ 4096 }
     ensures value { result ≡ fourth x }
@@ -11,28 +12,53 @@ fn fourth_power(x: u16) -> u64
     s * s
 }
 
-// How often `p` is doubled until it is above `q`.
+// How often `p` is doubled until it is above `q`: once for each binary digit of `q / p`.
+#[tactic(auto, using(crate::proofs::Limits::steps_digits))]
 fn doublings(p: u64, q: u64) -> u16
-    requires { (0 < p) × ((p ≤ 2 ^ 48) × (q ≤ 2 ^ 48)) }
+    requires some { 0 < p }
     ensures value { result ≡ steps 64 p q }
 {
-    let mut p = p;
-    let mut t: u16 = 0;
-    while p <= q && t < 64 {
-        p *= 2;
-        t += 1;
-    }
-    t
+    (64 - (q / p).leading_zeros()) as u16
 }
 
-// The doublings of each of the k points of a guess from 1 to n, among at most 4,096 points.
-fn doublings_each(n: u16, k: u16) -> u16
-    requires { (0 < k) × ((k ≤ n) × (n ≤ 4096)) }
-    ensures value { result ≡ doublings_of n k }
-    ensures small { k * result ≤ 3 * n }
-    ensures law { LimitLaw n k }
-{
-    doublings(fourth_power(k), fourth_power(n))
+// The guess that k of n points are enough: k is from 1 to n, and there are at most 4,096 points.
+#[derive(Clone, Copy)]
+pub struct Guess {
+    n: u16,
+    k: u16,
+    ghost some: { 0 < k },
+    ghost within: { k ≤ n },
+    ghost few: { n ≤ 4096 },
+}
+
+impl Guess {
+    pub fn new(n: u16, k: u16) -> Option<Guess>
+        ensures { MatchOption result (IsTrue (is_no_guess n k)) (λ g. (g.n ≡ n) × (g.k ≡ k)) }
+    {
+        if k == 0 || n < k || n > 4096 {
+            return None;
+        }
+        Some(Guess { n, k })
+    }
+
+    // How many doublings each of the k points may take.
+    #[tactic(auto, using(crate::proofs::Limits::limit_le))]
+    fn doublings_each(&self) -> u16
+        ensures value { result ≡ doublings_of self.now.n self.now.k }
+        ensures small { self.now.k * result ≤ 3 * self.now.n }
+    {
+        doublings(fourth_power(self.k), fourth_power(self.n))
+    }
+
+    // The limit: how many doublings the k points may take together.
+    #[tactic(auto, using(crate::proofs::Limits::limit_le, crate::proofs::Limits::limit_pos))]
+    pub fn limit(&self) -> u16
+        ensures value { result ≡ limit_of self.now.n self.now.k }
+        ensures most { result ≤ 3 * self.now.n }
+        ensures some { 0 < result }
+    {
+        self.k * self.doublings_each()
+    }
 }
 
 // The limit of the guess k among n points, if k is from 1 to n and there are at most 4,096 points.
@@ -40,15 +66,21 @@ pub fn limit(n: u16, k: u16) -> Option<u16>
     ensures value { result ≡ limit_if n k }
     ensures law { LimitLaw n k }
 {
-    if k == 0 || n < k || n > 4096 {
-        return None;
-    }
-    Some(k * doublings_each(n, k))
+    Guess::new(n, k).map(|guess| guess.limit())
 }
 
-// The worked limits, settled by proof.
-pub fn worked_limits() -> u8
-    ensures { WorkedLimits }
+// The worked limits.
+pub fn worked_limits() -> [Option<u16>; 7]
+    ensures value { result ≡ Some 1 ∷ Some 9 ∷ Some 10 ∷ Some 6 ∷ Some 4 ∷ Some 49 ∷ Some 4096 ∷ [] }
+    ensures worked { WorkedLimits }
 {
-    0
+    [
+        limit(1, 1),
+        limit(4, 1),
+        limit(4, 2),
+        limit(4, 3),
+        limit(4, 4),
+        limit(4096, 1),
+        limit(4096, 4096),
+    ]
 }
