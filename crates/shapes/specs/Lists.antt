@@ -1,5 +1,5 @@
 -- A space of two lent lists, points and ranges of one shape: what it means and when it is refused.
-use Rattle.std.specs.Prelude.{ℕ, Bool, false, cond, ◌||◌, List, length, Some, None, is_ok, Ok, Option, Result, nat_lt}
+use Rattle.std.specs.Prelude.{Bool, false, cond, ◌||◌, List, length, Some, None, is_ok, Ok, Option, Result, nat_lt}
 use Rattle.std.specs.List.{list_any, slice_get}
 use Rattle.ranges.specs.declared.refusal.Refusal.{Refusal}
 use Rattle.ranges.specs.declared.refusal.Refusal.TheVariants.{CountAboveLimit, CoordinateBeyondLimits, Reversed}

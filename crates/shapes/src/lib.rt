@@ -4,7 +4,6 @@
 pub mod box_range;
 pub mod boxes;
 pub mod coordinate;
-pub mod fault;
 pub mod lists;
 pub mod shape;
 pub mod strip_range;

@@ -6,6 +6,7 @@ use crate::shape::Shape;
 use ranges::number::{PointNumber, RangeNumber};
 use ranges::refusal::Refusal;
 use ranges::space::Space;
+use std::alloc::AllocError;
 
 // The most points and the most ranges of a space.
 pub const MOST_POINTS: usize = 4096;
@@ -14,8 +15,8 @@ pub const MOST_RANGES: usize = 16384;
 
 // The space of lent lists; refused lists give a space without points and ranges.
 pub struct Lists<'a, R: Shape> {
-    points: &'a [R::Point],
-    ranges: &'a [R],
+    pub(crate) points: &'a [R::Point],
+    pub(crate) ranges: &'a [R],
     ghost few_points: { length points.now ≤ 4096 },
     ghost few_ranges: { length ranges.now ≤ 16384 },
     ghost ordered: { R.shape.disordered points.now ≡ false },
@@ -50,6 +51,16 @@ pub fn check_lists<R: Shape>(points: &[R::Point], ranges: &[R]) -> Result<(), Re
     }
     Ok(())
 }
+
+impl<'a, R: Shape> Clone for Lists<'a, R> {
+    ghost is_clone = { λ x y. y ≡ x };
+
+    fn clone(&self) -> Result<Self, AllocError> {
+        Ok(*self)
+    }
+}
+
+impl<'a, R: Shape> Copy for Lists<'a, R> {}
 
 impl<'a, R: Shape> Lists<'a, R> {
     pub fn new(points: &'a [R::Point], ranges: &'a [R]) -> Lists<'a, R>

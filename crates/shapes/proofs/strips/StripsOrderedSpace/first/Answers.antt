@@ -1,8 +1,0 @@
-use Rattle.std.proofs.Common.{sym, ap, ◌∙◌}
-use Rattle.shapes.specs.Strips.{count_before, points_below}
-use Rattle.shapes.proofs.strips.StripsOrderedSpace.first.Goals as goal
-
-pub returns-in-Some-clause-value : goal.returns-in-Some-clause-value
-returns-in-Some-clause-value c =
-    let points = c.args.self.now.points.now in
-    c.count_before.ensures ∙ ap (count_before points) c.opening.ensures ∙ ap (points_below points) (sym c.in-Some.is ∙ c.strip.ensures.value)
