@@ -55,6 +55,8 @@ pub fn check_lists<R: Shape>(points: &[R::Point], ranges: &[R]) -> Result<(), Re
 impl<'a, R: Shape> Clone for Lists<'a, R> {
     ghost is_clone = { λ x y. y ≡ x };
 
+    ghost is_infallible = { λ _. Unit {0} };
+
     fn clone(&self) -> Result<Self, AllocError> {
         Ok(*self)
     }

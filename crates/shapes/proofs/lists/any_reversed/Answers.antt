@@ -7,5 +7,5 @@ use Rattle.shapes.proofs.lists.any_reversed.Goals as goal
 pub returns-else-any : goal.returns-else-any
 returns-else-any g c =
     let none : c.any.result ≡ list_any g.R.Shape.shape.reversed c.args.ranges.now =
-        any_from_yields_List _ _ _ _ c.any.ensures.ran (YieldsList-from_slice c.args.ranges.now cc) (λ x b q k. search rules) in
+    any_from_yields_List _ _ _ _ c.any.ensures.ran (YieldsList-from_slice c.args.ranges.now cc) (λ x b q k. search rules) in
     c.is_disordered.ensures ∙ ap (λ b. b || g.R.Shape.shape.disordered c.args.points.now) (sym c.if-any.false ∙ none)
