@@ -1,14 +1,16 @@
 -- Strips are in order: since the points ascend, those before an end of a strip stand in front.
-use Rattle.std.proofs.Common.{◌≡◌, ℕ, zero, suc, ◌+◌, ◌<◌, ◌≤◌, Bool, true, false, not, ◌&&◌, ltb, leb, List, length, get_or, count_by, ℤ, Option, Some, None, sym, refl, inl, inr, eq-or-lt_of_le, add-one, arith}
+use Rattle.std.proofs.Common.{◌≡◌, ℕ, ◌+◌, ◌<◌, ◌≤◌, Bool, true, false, not, ◌&&◌, ltb, leb, List, length, get_or, count_by, ℤ, Option, Some, None, sym, refl, inl, inr, arith}
 use lib.Signed.{le_z, lt_z}
 use Rattle.std.specs.List.{slice_get, IsAllAdjacentAnswer}
-use Rattle.std.specs.List.Sorted.{IsPartitionedBy}
+use Rattle.std.specs.List.Sorted.{IsPartitionedBy, IsSortedBy}
 use Rattle.std.specs.Option.{option_map_or}
-use Rattle.std.specs.Ordering.{int_cmp, partial_le}
+use Rattle.std.specs.Ordering.{int_cmp, is_lt, partial_le}
 use Rattle.std.proofs.lemmas.Int.{ints}
 use Rattle.std.proofs.lemmas.Bool.{cases_lt, le-ltb, and_right}
 use Rattle.std.proofs.lemmas.Bool.Decides.{nat_tests}
 use Rattle.std.proofs.lemmas.List.{get_or_default}
+use Rattle.std.proofs.lemmas.Cmp.{int_cmp_total}
+use Rattle.std.proofs.lemmas.List.Sorted.{ranks_by, sorted_far}
 use Rattle.std.proofs.lemmas.List.Sums.{count_by-le-length}
 use Rattle.std.proofs.lemmas.Option.{slice_get-get_or, slice_get_past}
 use Rattle.ranges.specs.Spaces.{Ordered}
@@ -30,37 +32,28 @@ pub sorted_answer : (ps : List StripPoint) (r : Bool) → IsAllAdjacentAnswer (�
 sorted_answer ps true all = sym (any_not (falls ps) _ (λ i l. in_turn (x_at ps i) (x_at ps (i + 1)) true (all i no_strip_point (omega arith))))
 sorted_answer ps false some = sym (any_found (falls ps) _ some.0 (omega (arith, some.1)) (in_turn (x_at ps some.0) (x_at ps (some.0 + 1)) false (some.2 no_strip_point)))
 
-no_fall : (x y z : ℤ) → lt_z y x ≡ false → lt_z z y ≡ false → lt_z z x ≡ false
-no_fall x y z first then = grind (arith, ints)
-
 turned : (a x : ℤ) (f p : ℕ) → lt_z x a ≡ ltb p f → le_z a x ≡ leb f p
 turned a x f p e = grind (arith, ints, nat_tests)
 
 module _ (ps : List StripPoint) (ascends : descends ps ≡ false) where
-  rising : (i k : ℕ) → i ≤ k → k < length ps → lt_z (x_at ps k) (x_at ps i) ≡ false
-  rising i zero le l = let z : i ≡ 0 = omega arith in rw z (grind (arith, ints))
-  rising i (suc k) le l =
-      elim (eq-or-lt_of_le le) [
-        | inl at ↦ rw at (grind (arith, ints))
-        | inr below ↦ (
-            let up : lt_z (x_at ps (k + 1)) (x_at ps k) ≡ false = any_absent (falls ps) _ ascends k (omega arith) in
-            no_fall (x_at ps i) (x_at ps k) (x_at ps (suc k)) (rising i k (omega arith) (omega arith)) (rw add-one at up))
-      ]
+  sorted : IsSortedBy (λ p q. is_lt (int_cmp p.x q.x)) ps
+  sorted k d from l =
+      let up : falls ps k ≡ false = any_absent (falls ps) _ ascends k (omega arith) in
+      let here = get_or_default ps k d no_strip_point (omega arith) in
+      let next = get_or_default ps (k + 1) d no_strip_point l in
+      rw (here, next) (grind (arith, ints, up))
 
-  rising_at : (i k : ℕ) (d : StripPoint) → i ≤ k → k < length ps → lt_z (get_or ps k d).x (get_or ps i d).x ≡ false
-  rising_at i k d le l =
-      let here = get_or_default ps k d no_strip_point l in
-      let before = get_or_default ps i d no_strip_point (omega arith) in
-      rw (here, before) (rising i k le l)
+  rising : (i k : ℕ) (d : StripPoint) → i ≤ k → k < length ps → is_lt (int_cmp (get_or ps k d).x (get_or ps i d).x) ≡ false
+  rising = sorted_far (λ p q. is_lt (int_cmp p.x q.x)) (ranks_by int_cmp_total (λ p. p.x)) ps sorted
 
   pub below_parted : (a : ℤ) → IsPartitionedBy (λ p. lt_z p.x a) ps
   below_parted a i k d le l pass =
-      let up = rising_at i k d le l in
+      let up = rising i k d le l in
       grind (arith, ints)
 
   pub up_to_parted : (b : ℤ) → IsPartitionedBy (λ p. le_z p.x b) ps
   up_to_parted b i k d le l pass =
-      let up = rising_at i k d le l in
+      let up = rising i k d le l in
       grind (arith, ints)
 
   held_by : (s : StripRange) (p : ℕ) → both_held strip_holds (Some s) (slice_get ps p) ≡ (leb (count_by (λ q. lt_z q.x s.a) ps) p && ltb p (count_by (λ q. le_z q.x s.b) ps))

@@ -1,6 +1,7 @@
 ghost use Rattle.std.specs.Prelude.{◌≡◌, ◌≤◌, false, ◌||◌, length};
 ghost use Rattle.std.specs.List.{list_any};
 ghost use Rattle.shapes.specs.Lists.{lists_check, lists_space, lists_meaning};
+ghost use Rattle.shapes.specs.declared.lists.TheConstants.{MOST_POINTS, MOST_RANGES};
 
 use crate::shape::Shape;
 use ranges::number::{PointNumber, RangeNumber};
@@ -17,8 +18,8 @@ pub const MOST_RANGES: usize = 16384;
 pub struct Lists<'a, R: Shape> {
     pub(crate) points: &'a [R::Point],
     pub(crate) ranges: &'a [R],
-    ghost few_points: { length points.now ≤ 4096 },
-    ghost few_ranges: { length ranges.now ≤ 16384 },
+    ghost few_points: { length points.now ≤ MOST_POINTS },
+    ghost few_ranges: { length ranges.now ≤ MOST_RANGES },
     ghost ordered: { R.shape.disordered points.now ≡ false },
 }
 

@@ -9,7 +9,7 @@ use ranges::space::OrderedSpace;
 pub type Strips<'a> = Lists<'a, StripRange>;
 
 // As the points ascend, those before either end of a strip stand in front, and halving counts them.
-impl<'a> OrderedSpace for Lists<'a, StripRange> {
+impl<'a> OrderedSpace for Strips<'a> {
     ghost first_of = { λ s j. first_point s.points.now s.ranges.now j };
 
     ghost end_of = { λ s j. end_point s.points.now s.ranges.now j };

@@ -5,7 +5,7 @@ use Rattle.std.proofs.lemmas.Option.{slice_get_past, slice_get_read}
 use Rattle.shapes.specs.Strips.{no_strip_point}
 use Rattle.shapes.proofs.Fronts.{front_ends}
 use Rattle.shapes.proofs.Orders.{strips_ordered, below_parted}
-use Rattle.shapes.proofs.strips.ListsStripRangeOrderedSpace.first.Goals as goal
+use Rattle.shapes.proofs.strips.StripsOrderedSpace.first.Goals as goal
 
 pub returns-in-Some-clause-value : goal.returns-in-Some-clause-value
 returns-in-Some-clause-value c =

@@ -5,7 +5,7 @@ use Rattle.std.proofs.lemmas.Option.{slice_get_past, slice_get_read}
 use Rattle.shapes.specs.Strips.{no_strip_point}
 use Rattle.shapes.proofs.Fronts.{front_ends}
 use Rattle.shapes.proofs.Orders.{strips_ordered, up_to_parted}
-use Rattle.shapes.proofs.strips.ListsStripRangeOrderedSpace.end.Goals as goal
+use Rattle.shapes.proofs.strips.StripsOrderedSpace.end.Goals as goal
 
 pub returns-in-Some-clause-value : goal.returns-in-Some-clause-value
 returns-in-Some-clause-value c =
