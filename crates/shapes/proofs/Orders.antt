@@ -1,84 +1,80 @@
--- Strips are in order: since the points ascend, those before an edge stand in front.
-use Rattle.std.proofs.Common.{◌≡◌, ℕ, zero, suc, ◌+◌, ◌<◌, ◌≤◌, true, false, ◌&&◌, ltb, leb, List, length, get_or, ℤ, Some, None, sym, ap, ◌∙◌, inl, inr, eq-or-lt_of_le, add-one, arith}
+-- Strips are in order: since the points ascend, those before an end of a strip stand in front.
+use Rattle.std.proofs.Common.{◌≡◌, ℕ, ◌+◌, ◌<◌, ◌≤◌, Bool, true, false, not, ◌&&◌, ltb, leb, List, length, get_or, count_by, ℤ, Option, Some, None, sym, refl, inl, inr, arith}
 use lib.Signed.{le_z, lt_z}
+use Rattle.std.specs.List.{slice_get, IsAllAdjacentAnswer}
+use Rattle.std.specs.List.Sorted.{IsPartitionedBy, IsSortedBy}
+use Rattle.std.specs.Option.{option_map_or}
+use Rattle.std.specs.Ordering.{int_cmp, is_lt, partial_le}
 use Rattle.std.proofs.lemmas.Int.{ints}
-use Rattle.std.proofs.lemmas.Bool.{cases_Bool, cases_lt, both_ways, cond-true, cond-false, lt-ltb, le-ltb, and_left, and_right}
+use Rattle.std.proofs.lemmas.Bool.{cases_lt, le-ltb, and_right}
 use Rattle.std.proofs.lemmas.Bool.Decides.{nat_tests}
+use Rattle.std.proofs.lemmas.List.{get_or_default}
+use Rattle.std.proofs.lemmas.Cmp.{int_cmp_total}
+use Rattle.std.proofs.lemmas.List.Sorted.{ranks_by, sorted_far}
+use Rattle.std.proofs.lemmas.List.Sums.{count_by-le-length}
+use Rattle.std.proofs.lemmas.Option.{slice_get-get_or, slice_get_past}
 use Rattle.ranges.specs.Spaces.{Ordered}
-use Rattle.ranges.proofs.Searches.{any_absent}
-use Rattle.ranges.proofs.Sums.{front_count, count_le}
+use Rattle.ranges.proofs.Searches.{any_absent, any_found, any_not}
 use Rattle.shapes.specs.declared.strip_range.StripPoint.{StripPoint}
 use Rattle.shapes.specs.declared.strip_range.StripRange.{StripRange}
-use Rattle.shapes.specs.declared.strip_range.Edge.{Edge}
-use Rattle.shapes.specs.declared.strip_range.Edge.TheVariants.{Below, UpTo}
-use Rattle.shapes.specs.Strips.{before, point_before, count_before, x_at, falls, descends, strip_space, first_point, end_point, no_strip, strip_at, points_below, points_up_to}
+use Rattle.shapes.specs.Lists.{both_held}
+use Rattle.shapes.specs.Strips.{strip_holds, x_at, falls, descends, strip_space, first_point, end_point, no_strip_point}
+use Rattle.shapes.proofs.Fronts.{in_front}
 
--- what lies before an edge has nothing smaller behind it
-before_back : (edge : Edge) (x y : ℤ) → lt_z y x ≡ false → before edge y ≡ true → before edge x ≡ true
-before_back (Below a) x y le e = grind (arith, ints)
-before_back (UpTo b) x y le e = grind (arith, ints)
+-- the answer of `is_sorted_by_key`
+keys_le : (x y : ℤ) → partial_le (λ a b. Some (int_cmp a b)) x y ≡ not (lt_z y x)
+keys_le x y = grind (arith, ints)
 
-module _ (ps : List StripPoint) (ascends : descends ps ≡ false) (edge : Edge) where
-  pub before_front : (i k : ℕ) → i ≤ k → k < length ps → point_before ps edge k ≡ true → point_before ps edge i ≡ true
-  before_front i zero le l e = let z : i ≡ 0 = omega arith in rw z e
-  before_front i (suc k) le l e =
-      elim (eq-or-lt_of_le le) [
-        | inl at ↦ rw at e
-        | inr below ↦ (
-            let up : lt_z (x_at ps (k + 1)) (x_at ps k) ≡ false = any_absent (falls ps) _ ascends k (omega arith) in
-            before_front i k (omega arith) (omega arith) (before_back edge (x_at ps k) (x_at ps (k + 1)) up (rw add-one e)))
-      ]
+in_turn : (x y : ℤ) (b : Bool) → b ≡ partial_le (λ a b. Some (int_cmp a b)) x y → lt_z y x ≡ not b
+in_turn x y b is = grind (arith, is, keys_le x y)
 
-  pub after_back : (i k : ℕ) → i ≤ k → k < length ps → point_before ps edge i ≡ false → point_before ps edge k ≡ false
-  after_back i k le l e =
-      elim (cases_Bool (point_before ps edge k)) [
-        | inl yes-k ↦ absurd (both_ways (point_before ps edge i) e (before_front i k le l yes-k))
-        | inr no-k ↦ no-k
-      ]
-
-  pub before_count : (p : ℕ) → p < length ps → point_before ps edge p ≡ ltb p (count_before ps edge)
-  before_count p l = front_count (point_before ps edge) (length ps) before_front p l
+pub sorted_answer : (ps : List StripPoint) (r : Bool) → IsAllAdjacentAnswer (λ p q b. b ≡ partial_le (λ a b. Some (int_cmp a b)) p.x q.x) ps r → not r ≡ descends ps
+sorted_answer ps true all = sym (any_not (falls ps) _ (λ i l. in_turn (x_at ps i) (x_at ps (i + 1)) true (all i no_strip_point (omega arith))))
+sorted_answer ps false some = sym (any_found (falls ps) _ some.0 (omega (arith, some.1)) (in_turn (x_at ps some.0) (x_at ps (some.0 + 1)) false (some.2 no_strip_point)))
 
 turned : (a x : ℤ) (f p : ℕ) → lt_z x a ≡ ltb p f → le_z a x ≡ leb f p
 turned a x f p e = grind (arith, ints, nat_tests)
 
-module _ (ps : List StripPoint) (ss : List StripRange) (ascends : descends ps ≡ false) (j p : ℕ) where
-  -- a strip that exists
-  held_here : j < length ss → (strip_space ps ss).holds j p ≡ (leb (first_point ps ss j) p && ltb p (end_point ps ss j))
-  held_here in_List =
-      let s = get_or ss j no_strip in
-      let exists = lt-ltb j (length ss) in_List in
-      let at : strip_at ss j ≡ Some s = cond-true (ltb j (length ss)) (Some s) None exists in
-      let first : first_point ps ss j ≡ count_before ps (Below s.a) = ap (points_below ps) at in
-      let end : end_point ps ss j ≡ count_before ps (UpTo s.b) = ap (points_up_to ps) at in
-      let few = count_le (point_before ps (UpTo s.b)) (length ps) in
+module _ (ps : List StripPoint) (ascends : descends ps ≡ false) where
+  sorted : IsSortedBy (λ p q. is_lt (int_cmp p.x q.x)) ps
+  sorted k d from l =
+      let up : falls ps k ≡ false = any_absent (falls ps) _ ascends k (omega arith) in
+      let here = get_or_default ps k d no_strip_point (omega arith) in
+      let next = get_or_default ps (k + 1) d no_strip_point l in
+      rw (here, next) (grind (arith, ints, up))
+
+  rising : (i k : ℕ) (d : StripPoint) → i ≤ k → k < length ps → is_lt (int_cmp (get_or ps k d).x (get_or ps i d).x) ≡ false
+  rising = sorted_far (λ p q. is_lt (int_cmp p.x q.x)) (ranks_by int_cmp_total (λ p. p.x)) ps sorted
+
+  pub below_parted : (a : ℤ) → IsPartitionedBy (λ p. lt_z p.x a) ps
+  below_parted a i k d le l pass =
+      let up = rising i k d le l in
+      grind (arith, ints)
+
+  pub up_to_parted : (b : ℤ) → IsPartitionedBy (λ p. le_z p.x b) ps
+  up_to_parted b i k d le l pass =
+      let up = rising i k d le l in
+      grind (arith, ints)
+
+  held_by : (s : StripRange) (p : ℕ) → both_held strip_holds (Some s) (slice_get ps p) ≡ (leb (count_by (λ q. lt_z q.x s.a) ps) p && ltb p (count_by (λ q. le_z q.x s.b) ps))
+  held_by s p =
       elim (cases_lt p (length ps)) [
-        | inl l ↦ (
-            let low = turned s.a (x_at ps p) (count_before ps (Below s.a)) p (before_count ps ascends (Below s.a) p l) in
-            let high = before_count ps ascends (UpTo s.b) p l in
-            let inside = lt-ltb p (length ps) l in
-            ap (λ b. b && (ltb p (length ps) && (le_z s.a (x_at ps p) && le_z (x_at ps p) s.b))) exists
-            ∙ ap (λ b. b && (le_z s.a (x_at ps p) && le_z (x_at ps p) s.b)) inside
-            ∙ (λ d. low d && high d)
-            ∙ sym (λ d. leb (first d) p && ltb p (end d)))
-        | inr l ↦ (
-            let outside = le-ltb p (length ps) l in
-            let past : ltb p (end_point ps ss j) ≡ false = ap (ltb p) end ∙ le-ltb p _ (omega arith) in
-            and_right (ltb j (length ss)) _ (and_left _ _ outside) ∙ sym (and_right _ _ past))
+        | inl inside ↦ (
+            let q = get_or ps p no_strip_point in
+            let low = turned s.a q.x _ p (in_front (λ q. lt_z q.x s.a) ps no_strip_point (below_parted s.a) p inside) in
+            let high = in_front (λ q. le_z q.x s.b) ps no_strip_point (up_to_parted s.b) p inside in
+            rw (slice_get-get_or ps p no_strip_point inside) (λ d. low d && high d))
+        | inr outside ↦ (
+            let few = count_by-le-length (λ q. le_z q.x s.b) ps in
+            rw (slice_get_past ps p outside) (sym (and_right _ _ (le-ltb p _ (omega arith)))))
       ]
 
-  -- no strip
-  held_nowhere : length ss ≤ j → (first_point ps ss j ≡ 0) × (end_point ps ss j ≡ 0)
-  held_nowhere beyond =
-      let none : strip_at ss j ≡ None = cond-false (ltb j (length ss)) (Some (get_or ss j no_strip)) None (le-ltb j _ beyond) in
-      (ap (points_below ps) none, ap (points_up_to ps) none)
-
-  held : (strip_space ps ss).holds j p ≡ (leb (first_point ps ss j) p && ltb p (end_point ps ss j))
-  held =
-      elim (cases_lt j (length ss)) [
-        | inl in_List ↦ held_here in_List
-        | inr beyond ↦ and_left _ _ (le-ltb j _ beyond) ∙ sym (and_right _ _ (ap (ltb p) (held_nowhere beyond).1 ∙ le-ltb p 0 (omega arith)))
-      ]
+  members : (o : Option StripRange) (p : ℕ) → both_held strip_holds o (slice_get ps p) ≡ (leb (option_map_or (λ s. count_by (λ q. lt_z q.x s.a) ps) o 0) p && ltb p (option_map_or (λ s. count_by (λ q. le_z q.x s.b) ps) o 0))
+  members None p = sym (and_right _ _ (le-ltb p 0 (omega arith)))
+  members (Some s) p = held_by s p
 
 pub strips_ordered : (ps : List StripPoint) (ss : List StripRange) → descends ps ≡ false → Ordered (strip_space ps ss) (first_point ps ss) (end_point ps ss)
-strips_ordered ps ss ascends = record { members = held ps ss ascends; beyond = λ j l. held_nowhere ps ss ascends j 0 l }
+strips_ordered ps ss ascends = record {
+  members = λ j p. members ps ascends (slice_get ss j) p;
+  beyond = λ j l. let none = slice_get_past ss j l in (rw none refl, rw none refl);
+}

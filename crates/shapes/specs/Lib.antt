@@ -1,3 +1,4 @@
 pub mod Coordinates
+pub mod Lists
 pub mod Boxes
 pub mod Strips

@@ -4,6 +4,7 @@
 pub mod box_range;
 pub mod boxes;
 pub mod coordinate;
-pub mod fault;
+pub mod lists;
+pub mod shape;
 pub mod strip_range;
 pub mod strips;

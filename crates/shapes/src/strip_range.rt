@@ -1,70 +1,47 @@
-ghost use Rattle.std.specs.Prelude.{◌≡◌};
-ghost use Rattle.shapes.specs.Strips.{strip_holds, strip_point_beyond, strip_beyond, strip_reversed, before};
+ghost use Rattle.std.specs.Prelude.{refl};
+ghost use Rattle.shapes.specs.Strips.{strip_shape};
 
 use crate::coordinate::{is_between, is_beyond};
-use crate::fault::{Beyond, EndsReversed, Fault};
+use crate::shape::Shape;
 
 // A point of the web, in 0.01 mm along it.
-#[derive(Clone, Copy)]
+#[derive(Clone, Copy, Debug, PartialEq, Eq)]
 pub struct StripPoint {
     pub x: i32,
 }
 
 // A closed strip: a ≤ b.
-#[derive(Clone, Copy)]
+#[derive(Clone, Copy, Debug, PartialEq, Eq)]
 pub struct StripRange {
     pub a: i32,
     pub b: i32,
 }
 
-impl StripRange {
-    // Whether the strip holds the point; its ends belong to it.
-    pub fn holds(&self, p: &StripPoint) -> bool
-        ensures { result ≡ strip_holds self.now p.now }
-    {
+// The ends of a strip belong to it; no point lies before the one that it follows.
+impl Shape for StripRange {
+    type Point = StripPoint;
+
+    ghost shape = { strip_shape };
+
+    fn holds(&self, p: &StripPoint) -> bool {
         is_between(self.a, p.x, self.b)
     }
-}
 
-// One end of a strip, which parts the points before it from the others.
-#[derive(Clone, Copy)]
-pub enum Edge {
-    Below(i32),
-    UpTo(i32),
-}
-
-impl Edge {
-    // Whether the edge lies after x.
-    pub fn is_after(&self, x: i32) -> bool
-        ensures { result ≡ before self.now x }
-    {
-        match *self {
-            Edge::Below(a) => x < a,
-            Edge::UpTo(b) => x <= b,
-        }
+    fn is_point_beyond(p: &StripPoint) -> bool {
+        is_beyond(p.x)
     }
-}
 
-impl Fault<StripPoint> for Beyond {
-    ghost faulty = { λ _ p. strip_point_beyond p };
-
-    fn is_in(&self, item: &StripPoint) -> bool {
-        is_beyond(item.x)
+    fn is_beyond(&self) -> bool {
+        is_beyond(self.a) || is_beyond(self.b)
     }
-}
 
-impl Fault<StripRange> for Beyond {
-    ghost faulty = { λ _ s. strip_beyond s };
-
-    fn is_in(&self, item: &StripRange) -> bool {
-        is_beyond(item.a) || is_beyond(item.b)
+    fn is_reversed(&self) -> bool {
+        self.a > self.b
     }
-}
 
-impl Fault<StripRange> for EndsReversed {
-    ghost faulty = { λ _ s. strip_reversed s };
-
-    fn is_in(&self, item: &StripRange) -> bool {
-        item.a > item.b
+    fn is_disordered(points: &[StripPoint]) -> bool {
+        !points.is_sorted_by_key(|p| p.x)
     }
+
+    ghost none_disordered = { refl };
 }
