@@ -19,7 +19,6 @@ use Rattle.guesses.proofs.Books.{added_lines, added_whole, rewritten_lines, rewr
 use Rattle.guesses.proofs.Limits.{limit_pos}
 use Rattle.ledgers.specs.Doublings.{doubled, doubled_by, ones, good, AllGood, NeedsMore}
 use Rattle.ledgers.specs.Replays.{numbers, replay_answer, replay_check, replayed, and_replay}
-use Rattle.ledgers.specs.declared.replay.Replayed.TheVariants.{Accepted}
 use Rattle.ledgers.proofs.Certificates.{full_ledger}
 use Rattle.ledgers.proofs.Pushes.{doubled_by_push, good_push}
 use Rattle.ledgers.proofs.Replays.{good_accepted}
@@ -419,7 +418,7 @@ hit_right S (start ws ms ledger scratch) = tt
 hit_right S (next {es} h s) = step_right S es s
 
 -- replay accepts a full ledger of good lines
-certificate : (S : RangeSpace) (k : ℕ) (js : List ℕ) (ledger : List RangeNumber) → 0 < k → k ≤ S.points → AllGood S k (ones S.points) js → length js ≡ limit_of S.points k → numbers ledger ≡ js → replay_answer S k ledger S.points ≡ Ok Accepted
+certificate : (S : RangeSpace) (k : ℕ) (js : List ℕ) (ledger : List RangeNumber) → 0 < k → k ≤ S.points → AllGood S k (ones S.points) js → length js ≡ limit_of S.points k → numbers ledger ≡ js → replay_answer S k ledger S.points ≡ Ok tt
 certificate S k js ledger some few all full is =
     let lines : length ledger ≡ limit_of S.points k = sym (length-map ledger (λ (x : RangeNumber). x.0)) ∙ ap length is ∙ full in
     let right : replay_check S k (length ledger) S.points ≡ Ok tt =
@@ -427,7 +426,7 @@ certificate S k js ledger some few all full is =
     ∙ cond-false _ _ _ ((λ i. ne_eqb k 0 (λ e. omega arith) i || le-ltb S.points k few i))
     ∙ cond-false _ _ _ (ap not (eq-eqb (length ledger) _ lines)) in
     ap (λ x. and_replay x (replayed S k 0 (ones S.points) ledger)) right
-    ∙ ap Ok (good_accepted S k 0 (ones S.points) ledger (subst (AllGood S k (ones S.points)) (sym is) all))
+    ∙ good_accepted S k 0 (ones S.points) ledger (subst (AllGood S k (ones S.points)) (sym is) all)
 
 -- the laws hold of every history
 pub lawful : (S : RangeSpace) → Within S → (es : List Event) (d : Desk) → History S es d → Lawful S es d

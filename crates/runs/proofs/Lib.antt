@@ -2,3 +2,4 @@ pub mod Openings
 pub mod Rounds
 pub mod Laws
 pub mod Performs
+pub mod Loans

@@ -15,7 +15,6 @@ use Rattle.guesses.specs.Books.{book_lines, line_at}
 use Rattle.guesses.specs.Limits.{limit_of}
 use Rattle.ledgers.specs.Doublings.{ones, NeedsMore}
 use Rattle.ledgers.specs.Replays.{numbers, replay_answer}
-use Rattle.ledgers.specs.declared.replay.Replayed.TheVariants.{Accepted}
 use Rattle.runs.specs.declared.call.Call.{Call}
 use Rattle.runs.specs.declared.call.Call.TheVariants as calls
 use Rattle.runs.specs.declared.call.Call.TheVariants.{Begin, Round, GiveUp}
@@ -141,7 +140,7 @@ pub record Lawful (S : RangeSpace) (es : List Event) (d : Desk) : Type 0 where
   pub floor : 0 < d.state.floor → NeedsMore S d.state.floor
   -- a guess that missed a range in each of its limit's rounds is ruled out, and replay accepts its ledger
   pub certified : (k : ℕ) (ledger : List RangeNumber) → guess_in es ≡ Some k → length (doubled_in es) ≡ limit_of S.points k → numbers ledger ≡ doubled_in es
-      → replay_answer S k ledger S.points ≡ Ok Accepted
+      → replay_answer S k ledger S.points ≡ Ok tt
   -- a hit is right
   pub hit : HitRight S es d
   -- where some k points hit all ranges, round number k·t of guess k is a hit

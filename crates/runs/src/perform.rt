@@ -1,12 +1,13 @@
 ghost use Rattle.std.specs.Prelude.{◌≡◌, ◌+◌, ◌^◌, ◌<◌, is_ok, if◌then◌else◌};
 ghost use Rattle.ranges.specs.Spaces.{Within};
+ghost use Rattle.runs.specs.Desks.{desk, Lent};
 ghost use Rattle.runs.specs.Histories.{Performed, AllPerformed, AllPerformedClearing, Clears, request_of, requests};
 
+use crate::buffers::Buffers;
 use crate::call::Call;
 use crate::run::Run;
 use nets::finder::Finder;
 use nets::verifier::Verifier;
-use ranges::number::RangeNumber;
 use ranges::refusal::Refusal;
 use ranges::space::Space;
 
@@ -16,15 +17,13 @@ impl Run {
         &mut self,
         s: &S,
         calls: &[Call<'_, F, V>],
-        weights: &mut [u64],
-        marks: &mut [u8],
-        ledger: &mut [RangeNumber],
-        scratch: &mut [u8],
+        buffers: &mut Buffers<'_>,
     ) -> usize
-        ensures performed { AllPerformed (S.Space.meaning s.now) (requests F.Finder.promise V.Verifier.promise calls.now) (record { state = self.old.state; weights = weights.old; marks = marks.old; ledger = ledger.old; scratch = scratch.old }) (record { state = self.new.state; weights = weights.new; marks = marks.new; ledger = ledger.new; scratch = scratch.new }) result }
-        ensures clearing { AllPerformedClearing (S.Space.meaning s.now) (requests F.Finder.promise V.Verifier.promise calls.now) (record { state = self.old.state; weights = weights.old; marks = marks.old; ledger = ledger.old; scratch = scratch.old }) (record { state = self.new.state; weights = weights.new; marks = marks.new; ledger = ledger.new; scratch = scratch.new }) result }
+        ensures performed { AllPerformed (S.Space.meaning s.now) (requests F.Finder.promise V.Verifier.promise calls.now) (desk self.old.state buffers.old) (desk self.new.state buffers.new) result }
+        ensures clearing { AllPerformedClearing (S.Space.meaning s.now) (requests F.Finder.promise V.Verifier.promise calls.now) (desk self.old.state buffers.old) (desk self.new.state buffers.new) result }
+        ensures lent { Lent buffers.old buffers.new }
     {
-        self.perform_each(s, calls, weights, marks, ledger, scratch)
+        self.perform_each(s, calls, buffers)
     }
 
     // Performs one call, as a step of a history.
@@ -32,16 +31,14 @@ impl Run {
         &mut self,
         s: &S,
         call: &Call<'_, F, V>,
-        weights: &mut [u64],
-        marks: &mut [u8],
-        ledger: &mut [RangeNumber],
-        scratch: &mut [u8],
+        buffers: &mut Buffers<'_>,
     ) -> Result<(), Refusal>
-        ensures step { Performed (S.Space.meaning s.now) (request_of F.Finder.promise V.Verifier.promise call.now) result (record { state = self.old.state; weights = weights.old; marks = marks.old; ledger = ledger.old; scratch = scratch.old }) (record { state = self.new.state; weights = weights.new; marks = marks.new; ledger = ledger.new; scratch = scratch.new }) }
-        ensures clearing { Clears (S.Space.meaning s.now) (request_of F.Finder.promise V.Verifier.promise call.now) result (record { state = self.old.state; weights = weights.old; marks = marks.old; ledger = ledger.old; scratch = scratch.old }) (record { state = self.new.state; weights = weights.new; marks = marks.new; ledger = ledger.new; scratch = scratch.new }) }
+        ensures step { Performed (S.Space.meaning s.now) (request_of F.Finder.promise V.Verifier.promise call.now) result (desk self.old.state buffers.old) (desk self.new.state buffers.new) }
+        ensures clearing { Clears (S.Space.meaning s.now) (request_of F.Finder.promise V.Verifier.promise call.now) result (desk self.old.state buffers.old) (desk self.new.state buffers.new) }
+        ensures lent { Lent buffers.old buffers.new }
         ensures within { Within (S.Space.meaning s.now) }
     {
-        self.perform_call(s, call, weights, marks, ledger, scratch)
+        self.perform_call(s, call, buffers)
     }
 
     // The calls one after the other.
@@ -49,19 +46,17 @@ impl Run {
         &mut self,
         s: &S,
         calls: &[Call<'_, F, V>],
-        weights: &mut [u64],
-        marks: &mut [u8],
-        ledger: &mut [RangeNumber],
-        scratch: &mut [u8],
+        buffers: &mut Buffers<'_>,
     ) -> usize
-        ensures performed { AllPerformed (S.Space.meaning s.now) (requests F.Finder.promise V.Verifier.promise calls.now) (record { state = self.old.state; weights = weights.old; marks = marks.old; ledger = ledger.old; scratch = scratch.old }) (record { state = self.new.state; weights = weights.new; marks = marks.new; ledger = ledger.new; scratch = scratch.new }) result }
-        ensures clearing { AllPerformedClearing (S.Space.meaning s.now) (requests F.Finder.promise V.Verifier.promise calls.now) (record { state = self.old.state; weights = weights.old; marks = marks.old; ledger = ledger.old; scratch = scratch.old }) (record { state = self.new.state; weights = weights.new; marks = marks.new; ledger = ledger.new; scratch = scratch.new }) result }
+        ensures performed { AllPerformed (S.Space.meaning s.now) (requests F.Finder.promise V.Verifier.promise calls.now) (desk self.old.state buffers.old) (desk self.new.state buffers.new) result }
+        ensures clearing { AllPerformedClearing (S.Space.meaning s.now) (requests F.Finder.promise V.Verifier.promise calls.now) (desk self.old.state buffers.old) (desk self.new.state buffers.new) result }
+        ensures lent { Lent buffers.old buffers.new }
     {
         // one question brings what every space keeps
         let _n = s.points();
         let mut accepted = 0;
         for call in calls {
-            let answer = self.perform(s, call, weights, marks, ledger, scratch);
+            let answer = self.perform(s, call, buffers);
             accepted = counted(accepted, &answer);
         }
         accepted
@@ -72,21 +67,23 @@ impl Run {
         &mut self,
         s: &S,
         call: &Call<'_, F, V>,
-        weights: &mut [u64],
-        marks: &mut [u8],
-        ledger: &mut [RangeNumber],
-        scratch: &mut [u8],
+        buffers: &mut Buffers<'_>,
     ) -> Result<(), Refusal>
-        ensures step { Performed (S.Space.meaning s.now) (request_of F.Finder.promise V.Verifier.promise call.now) result (record { state = self.old.state; weights = weights.old; marks = marks.old; ledger = ledger.old; scratch = scratch.old }) (record { state = self.new.state; weights = weights.new; marks = marks.new; ledger = ledger.new; scratch = scratch.new }) }
-        ensures clearing { Clears (S.Space.meaning s.now) (request_of F.Finder.promise V.Verifier.promise call.now) result (record { state = self.old.state; weights = weights.old; marks = marks.old; ledger = ledger.old; scratch = scratch.old }) (record { state = self.new.state; weights = weights.new; marks = marks.new; ledger = ledger.new; scratch = scratch.new }) }
+        ensures step { Performed (S.Space.meaning s.now) (request_of F.Finder.promise V.Verifier.promise call.now) result (desk self.old.state buffers.old) (desk self.new.state buffers.new) }
+        ensures clearing { Clears (S.Space.meaning s.now) (request_of F.Finder.promise V.Verifier.promise call.now) result (desk self.old.state buffers.old) (desk self.new.state buffers.new) }
+        ensures lent { Lent buffers.old buffers.new }
         ensures within { Within (S.Space.meaning s.now) }
     {
         // one question brings what every space keeps
         let _n = s.points();
         match call {
             Call::Begin => self.begin(s),
-            Call::Open(k) => self.open(s, *k, weights, ledger),
-            Call::Round(f, v) => self.round(s, *f, *v, weights, marks, ledger, scratch),
+            Call::Open(k) => {
+                let weights = &mut *buffers.weights;
+                let ledger = &mut *buffers.ledger;
+                self.open(s, *k, weights, ledger)
+            }
+            Call::Round(f, v) => self.round(s, *f, *v, buffers),
             Call::GiveUp => self.give_up(),
         }
     }

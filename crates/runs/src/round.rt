@@ -4,7 +4,7 @@ ghost use Rattle.ranges.specs.Weights.{total, range_weight};
 ghost use Rattle.ledgers.specs.Doublings.{doubled_points};
 ghost use Rattle.nets.specs.Finders.{find_check};
 ghost use Rattle.guesses.specs.Limits.{limit_of};
-ghost use Rattle.runs.specs.Runs.{SomeGuess, FewGuess, round_check, buffer_check, miss_state, closed_state, rules_out, guess_of, is_guessing, or_guess, cleared, NetAndVerdict};
+ghost use Rattle.runs.specs.Runs.{SomeGuess, FewGuess, round_check, buffer_check, miss_state, closed_state, guess_of, is_guessing, or_guess, cleared, NetAndVerdict};
 
 use crate::state::{OpenGuess, Phase, State};
 use guesses::book::{GuessLine, Verdict};
@@ -65,7 +65,9 @@ fn check_buffers(
     need: usize,
     whole: u64,
 ) -> Result<(), Refusal>
-    requires { (0 < guess.k) × ((guess.k ≤ n) × (n ≤ 4096)) }
+    requires some { 0 < guess.k }
+    requires few { guess.k ≤ n }
+    requires points { n ≤ 4096 }
     ensures { result ≡ buffer_check n guess.k guess.total lengths.ledger lengths.scratch need whole }
 {
     let Some(most) = limit(n, guess.k) else {
@@ -97,14 +99,9 @@ pub(crate) fn play<S: Space, F: Finder<S>, V: Verifier<S>>(
     ensures net { NetAndVerdict (F.Finder.promise f.now) (V.Verifier.promise v.now) (S.Space.meaning s.now) k weights.now marks.new result.0 result.1 }
     ensures scratch { scratch.new ≡ cleared ((F.Finder.promise f.now).need (S.Space.meaning s.now).points (S.Space.meaning s.now).ranges) scratch.old }
 {
-    let points = match f.find(s, k, weights, marks, scratch) {
-        Ok(points) => points,
-        Err(_) => unreachable(),
-    };
-    match v.judge(s, marks, weights) {
-        Ok(missed) => (points, missed),
-        Err(_) => unreachable(),
-    }
+    let points = f.find(s, k, weights, marks, scratch).unwrap();
+    let missed = v.judge(s, marks, weights).unwrap();
+    (points, missed)
 }
 
 // The state with the open guess closed by a verdict.
@@ -132,7 +129,7 @@ pub(crate) fn missed(state: &State, guess: OpenGuess, weight: u64) -> State
 {
     let k = guess.k;
     let doublings = guess.doublings + 1;
-    if is_last(state.n, k, doublings) {
+    if limit(state.n, k) == Some(doublings) {
         let mut next = closed(state, k, doublings, Verdict::RuledOut);
         next.floor = k;
         return next;
@@ -144,17 +141,6 @@ pub(crate) fn missed(state: &State, guess: OpenGuess, weight: u64) -> State
         total: guess.total + weight,
     });
     next
-}
-
-// Whether so many doublings rule guess k out.
-fn is_last(n: u16, k: u16, doublings: u16) -> bool
-    requires { (0 < k) × ((k ≤ n) × (n ≤ 4096)) }
-    ensures { result ≡ rules_out n k doublings }
-{
-    match limit(n, k) {
-        Some(most) => doublings == most,
-        None => false,
-    }
 }
 
 // The weight of the missed range as it stands.

@@ -2,11 +2,13 @@ ghost use Rattle.std.specs.Prelude.{◌≡◌, List, ◌∷◌, length};
 ghost use Rattle.guesses.specs.Books.{book_lines, line_at};
 ghost use Rattle.ledgers.specs.Doublings.{ones};
 ghost use Rattle.runs.specs.Runs.{SomeGuess, FewGuess, FewPoints, Unfinished, GrownTotal, blank_state, begin_check, begun_state, open_check, open_state, give_up_check, gave_up_state, guess_of, is_guessing, room_check, or_guess, accepted, after, round_check, round_state, round_weights, round_ledger, cleared, Played, Ready};
+ghost use Rattle.runs.specs.Desks.{desk, Lent};
 ghost use Rattle.ranges.specs.Refusals.{verdict_of};
 ghost use Rattle.runs.specs.Histories.{Event, History, Lawful, RoundDone};
 ghost use Rattle.ranges.specs.Weights.{chosen};
 ghost use Rattle.ranges.specs.Spaces.{Within};
 
+use crate::buffers::Buffers;
 use crate::round::{Lengths, check_round, closed, double_set, missed, missed_weight, play};
 use crate::state::{OpenGuess, Phase, State};
 use guesses::book::{Book, GuessLine, Verdict};
@@ -71,10 +73,7 @@ impl Run {
     pub fn is_guessing(&self) -> bool
         ensures { result ≡ is_guessing self.now.state.phase }
     {
-        match self.state.phase {
-            Phase::Guessing(_) => true,
-            Phase::Blank | Phase::Idle => false,
-        }
+        matches!(self.state.phase, Phase::Guessing(_))
     }
 
     // Begins on a space whose every range holds a point.
@@ -122,16 +121,14 @@ impl Run {
         s: &S,
         f: &F,
         v: &V,
-        weights: &mut [u64],
-        marks: &mut [u8],
-        ledger: &mut [RangeNumber],
-        scratch: &mut [u8],
+        buffers: &mut Buffers<'_>,
     ) -> Result<(), Refusal>
-        ensures check { result ≡ round_check (S.Space.meaning s.now) self.old.state weights.old (length marks.old) (length ledger.old) (length scratch.old) ((F.Finder.promise f.now).need (S.Space.meaning s.now).points (S.Space.meaning s.now).ranges) }
-        ensures done { RoundDone (F.Finder.promise f.now) (V.Verifier.promise v.now) (S.Space.meaning s.now) result (record { state = self.old.state; weights = weights.old; marks = marks.old; ledger = ledger.old; scratch = scratch.old }) (record { state = self.new.state; weights = weights.new; marks = marks.new; ledger = ledger.new; scratch = scratch.new }) }
-        ensures law { (es : List Event) → History (S.Space.meaning s.now) es (record { state = self.old.state; weights = weights.old; marks = marks.old; ledger = ledger.old; scratch = scratch.old }) → (e : Event) × History (S.Space.meaning s.now) (e ∷ es) (record { state = self.new.state; weights = weights.new; marks = marks.new; ledger = ledger.new; scratch = scratch.new }) × Lawful (S.Space.meaning s.now) (e ∷ es) (record { state = self.new.state; weights = weights.new; marks = marks.new; ledger = ledger.new; scratch = scratch.new }) }
+        ensures check { result ≡ round_check (S.Space.meaning s.now) self.old.state buffers.old.weights.now (length buffers.old.marks.now) (length buffers.old.ledger.now) (length buffers.old.scratch.now) ((F.Finder.promise f.now).need (S.Space.meaning s.now).points (S.Space.meaning s.now).ranges) }
+        ensures done { RoundDone (F.Finder.promise f.now) (V.Verifier.promise v.now) (S.Space.meaning s.now) result (desk self.old.state buffers.old) (desk self.new.state buffers.new) }
+        ensures law { (es : List Event) → History (S.Space.meaning s.now) es (desk self.old.state buffers.old) → (e : Event) × History (S.Space.meaning s.now) (e ∷ es) (desk self.new.state buffers.new) × Lawful (S.Space.meaning s.now) (e ∷ es) (desk self.new.state buffers.new) }
+        ensures lent { Lent buffers.old buffers.new }
     {
-        self.judged_round(s, f, v, weights, marks, ledger, scratch)
+        self.judged_round(s, f, v, buffers)
     }
 
     // A round as a step of a history.
@@ -140,19 +137,15 @@ impl Run {
         s: &S,
         f: &F,
         v: &V,
-        weights: &mut [u64],
-        marks: &mut [u8],
-        ledger: &mut [RangeNumber],
-        scratch: &mut [u8],
+        buffers: &mut Buffers<'_>,
     ) -> Result<(), Refusal>
-        ensures check { result ≡ round_check (S.Space.meaning s.now) self.old.state weights.old (length marks.old) (length ledger.old) (length scratch.old) ((F.Finder.promise f.now).need (S.Space.meaning s.now).points (S.Space.meaning s.now).ranges) }
-        ensures done { RoundDone (F.Finder.promise f.now) (V.Verifier.promise v.now) (S.Space.meaning s.now) result (record { state = self.old.state; weights = weights.old; marks = marks.old; ledger = ledger.old; scratch = scratch.old }) (record { state = self.new.state; weights = weights.new; marks = marks.new; ledger = ledger.new; scratch = scratch.new }) }
-        ensures law { (es : List Event) → History (S.Space.meaning s.now) es (record { state = self.old.state; weights = weights.old; marks = marks.old; ledger = ledger.old; scratch = scratch.old }) → (e : Event) × History (S.Space.meaning s.now) (e ∷ es) (record { state = self.new.state; weights = weights.new; marks = marks.new; ledger = ledger.new; scratch = scratch.new }) × Lawful (S.Space.meaning s.now) (e ∷ es) (record { state = self.new.state; weights = weights.new; marks = marks.new; ledger = ledger.new; scratch = scratch.new }) }
+        ensures check { result ≡ round_check (S.Space.meaning s.now) self.old.state buffers.old.weights.now (length buffers.old.marks.now) (length buffers.old.ledger.now) (length buffers.old.scratch.now) ((F.Finder.promise f.now).need (S.Space.meaning s.now).points (S.Space.meaning s.now).ranges) }
+        ensures done { RoundDone (F.Finder.promise f.now) (V.Verifier.promise v.now) (S.Space.meaning s.now) result (desk self.old.state buffers.old) (desk self.new.state buffers.new) }
+        ensures law { (es : List Event) → History (S.Space.meaning s.now) es (desk self.old.state buffers.old) → (e : Event) × History (S.Space.meaning s.now) (e ∷ es) (desk self.new.state buffers.new) × Lawful (S.Space.meaning s.now) (e ∷ es) (desk self.new.state buffers.new) }
+        ensures lent { Lent buffers.old buffers.new }
     {
-        match self.play_round(s, f, v, weights, marks, ledger, scratch) {
-            Ok(_) => Ok(()),
-            Err(e) => Err(e),
-        }
+        self.play_round(s, f, v, buffers)?;
+        Ok(())
     }
 
     // One round; accepted, it answers the range missed, if any.
@@ -161,28 +154,27 @@ impl Run {
         s: &S,
         f: &F,
         v: &V,
-        weights: &mut [u64],
-        marks: &mut [u8],
-        ledger: &mut [RangeNumber],
-        scratch: &mut [u8],
+        buffers: &mut Buffers<'_>,
     ) -> Result<Option<RangeNumber>, Refusal>
-        ensures check { verdict_of result ≡ round_check (S.Space.meaning s.now) self.old.state weights.old (length marks.old) (length ledger.old) (length scratch.old) ((F.Finder.promise f.now).need (S.Space.meaning s.now).points (S.Space.meaning s.now).ranges) }
+        ensures check { verdict_of result ≡ round_check (S.Space.meaning s.now) self.old.state buffers.old.weights.now (length buffers.old.marks.now) (length buffers.old.ledger.now) (length buffers.old.scratch.now) ((F.Finder.promise f.now).need (S.Space.meaning s.now).points (S.Space.meaning s.now).ranges) }
         ensures within { Within (S.Space.meaning s.now) }
-        ensures net { Played (F.Finder.promise f.now) (V.Verifier.promise v.now) (S.Space.meaning s.now) (guess_of self.old.state.phase).k weights.old result marks.old marks.new }
-        ensures state { self.new.state ≡ after result (round_state (S.Space.meaning s.now) self.old.state weights.old (chosen marks.new)) self.old.state }
-        ensures weights { weights.new ≡ after result (round_weights (S.Space.meaning s.now) weights.old) weights.old }
-        ensures ledger { ledger.new ≡ after result (round_ledger self.old.state ledger.old) ledger.old }
-        ensures scratch { scratch.new ≡ after result (λ _. cleared ((F.Finder.promise f.now).need (S.Space.meaning s.now).points (S.Space.meaning s.now).ranges) scratch.old) scratch.old }
+        ensures net { Played (F.Finder.promise f.now) (V.Verifier.promise v.now) (S.Space.meaning s.now) (guess_of self.old.state.phase).k buffers.old.weights.now result buffers.old.marks.now buffers.new.marks.now }
+        ensures state { self.new.state ≡ after result (round_state (S.Space.meaning s.now) self.old.state buffers.old.weights.now (chosen buffers.new.marks.now)) self.old.state }
+        ensures weights { buffers.new.weights.now ≡ after result (round_weights (S.Space.meaning s.now) buffers.old.weights.now) buffers.old.weights.now }
+        ensures ledger { buffers.new.ledger.now ≡ after result (round_ledger self.old.state buffers.old.ledger.now) buffers.old.ledger.now }
+        ensures scratch { buffers.new.scratch.now ≡ after result (λ _. cleared ((F.Finder.promise f.now).need (S.Space.meaning s.now).points (S.Space.meaning s.now).ranges) buffers.old.scratch.now) buffers.old.scratch.now }
+        ensures lent { Lent buffers.old buffers.new }
     {
+        let weights = &mut *buffers.weights;
+        let marks = &mut *buffers.marks;
+        let ledger = &mut *buffers.ledger;
+        let scratch = &mut *buffers.scratch;
         let lengths = Lengths {
             marks: marks.len(),
             ledger: ledger.len(),
             scratch: scratch.len(),
         };
-        let guess = match self.ready(s, f, weights, lengths) {
-            Ok(guess) => guess,
-            Err(e) => return Err(e),
-        };
+        let guess = self.ready(s, f, weights, lengths)?;
         let (points, judged) = play(s, f, v, guess.k, weights, marks, scratch);
         match judged {
             Some(j) => {

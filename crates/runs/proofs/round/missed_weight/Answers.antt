@@ -1,5 +1,5 @@
 use Rattle.std.proofs.Common.{◌∙◌, arith}
-use Rattle.nets.specs.Lightness.{range_uncapped, range_le_total}
+use Rattle.ranges.proofs.Totals.{range_uncapped, range_le_total}
 use Rattle.runs.proofs.round.missed_weight.Goals as goal
 
 pub returns : goal.returns
