@@ -1,5 +1,5 @@
 -- Opening a guess by the schedule, and what its course comes to.
-use Rattle.std.proofs.Common.{◌≡◌, ℕ, ◌+◌, ◌<◌, true, false, List, [], ◌∷◌, length, None, Ok, sym, refl, ap, ◌∙◌, subst, arith}
+use Rattle.std.proofs.Common.{◌≡◌, ℕ, ◌+◌, ◌<◌, true, false, List, [], ◌∷◌, length, None, Ok, Result, sym, refl, ap, ◌∙◌, subst, arith}
 use Rattle.std.proofs.lemmas.List.{length_push}
 use Rattle.std.proofs.lemmas.Bool.{both_ways, not-false}
 use Rattle.ranges.specs.Spaces.{RangeSpace, Within}
@@ -17,8 +17,10 @@ use Rattle.guesses.proofs.Books.{added_lines, added_whole}
 use Rattle.ledgers.specs.Doublings.{ones, NeedsMore}
 use Rattle.ledgers.proofs.Doublings.{ones_long, total_ones}
 use Rattle.runs.specs.declared.state.OpenGuess.{OpenGuess}
+use Rattle.runs.specs.declared.state.State.{State}
+use Rattle.ranges.specs.declared.refusal.Refusal.{Refusal}
 use Rattle.runs.specs.declared.state.Phase.TheVariants.{Idle, Guessing}
-use Rattle.runs.specs.Runs.{Desk, is_guessing, blank_state, open_check, open_state, line_of}
+use Rattle.runs.specs.Runs.{Desk, is_guessing, blank_state, open_check, open_state, line_of, accepted}
 use Rattle.runs.specs.Histories.{Event, opened, judged, opens, History, start, next, guess_in, doubled_in, hit_in}
 use Rattle.placing.specs.Placements.{Way, here, on, next_guess, ranged, ledgers_in}
 use Rattle.placing.specs.Playing.{Fitted, Stands, still_open, was_hit, was_ruled, Course}
@@ -34,6 +36,14 @@ way_history blank (on w s t) = next (way_history blank w) s
 -- the desk with guess k opened
 abbrev pub open_desk : RangeSpace → ℕ → Desk → Desk
 open_desk S k d = record { state = open_state d.state k; weights = ones S.points; marks = d.marks; ledger = d.ledger; scratch = d.scratch }
+
+-- an accepted open leaves that desk
+pub opened_is : (S : RangeSpace) (k : ℕ) (before : Desk) (st : State) (ws : List ℕ) (r : Result Unit Refusal) → r ≡ Ok tt → st ≡ accepted r (open_state before.state k) before.state → ws ≡ accepted r (ones S.points) before.weights
+    → ◌≡◌ {A = Desk} (record { state = st; weights = ws; marks = before.marks; ledger = before.ledger; scratch = before.scratch }) (open_desk S k before)
+opened_is S k before st ws r ok state weights =
+    let st-is = state ∙ ap (λ (x : Result Unit Refusal). accepted x (open_state before.state k) before.state) ok in
+    let ws-is = weights ∙ ap (λ (x : Result Unit Refusal). accepted x (ones S.points) before.weights) ok in
+    (λ i. record { state = st-is i; weights = ws-is i; marks = before.marks; ledger = before.ledger; scratch = before.scratch })
 
 pub open_fitted : (S : RangeSpace) (need k : ℕ) (d : Desk) → Fitted S need d → Fitted S need (open_desk S k d)
 open_fitted S need k d fit = record {

@@ -1,2 +1,3 @@
 pub mod Placements
 pub mod Playing
+pub mod Lending

@@ -13,7 +13,6 @@ use Rattle.guesses.specs.Books.{book_lines}
 use Rattle.guesses.specs.Limits.{limit_of}
 use Rattle.ledgers.specs.Doublings.{NeedsMore}
 use Rattle.ledgers.specs.Replays.{replay_answer}
-use Rattle.ledgers.specs.declared.replay.Replayed.TheVariants.{Accepted}
 use Rattle.runs.specs.declared.state.State.{State}
 use Rattle.runs.specs.Runs.{Desk, blank_state, guess_of, round_desk}
 use Rattle.runs.specs.Histories.{Event, begun, opened, judged, gave_up, refused, Step, History, Along, guess_in, doubled_in, hit_in}
@@ -122,7 +121,7 @@ pub record Placement (F : FinderMeaning) (V : VerifierMeaning) (S : RangeSpace) 
 
 -- replay accepts a section's ledger
 abbrev pub Replays : RangeSpace → Section → Type 0
-Replays S s = replay_answer S s.guess s.lines S.points ≡ Ok Accepted
+Replays S s = replay_answer S s.guess s.lines S.points ≡ Ok tt
 
 -- what a placement is worth: the laws of runs hold all along; the marked points hit every range and are at most the
 -- finder's bound for the last guess; every set that hits all ranges has more points than the floor; every ledger in the

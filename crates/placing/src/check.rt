@@ -6,20 +6,16 @@ ghost use Rattle.placing.specs.Placements.{place_check};
 use ranges::hit::{AllPoints, lowest_missed};
 use ranges::refusal::Refusal;
 use ranges::space::Space;
-
-// The lengths of the buffers that place is given.
-#[derive(Clone, Copy)]
-pub(crate) struct Lengths {
-    pub weights: usize,
-    pub marks: usize,
-    pub ledger: usize,
-    pub scratch: usize,
-    pub sheet: usize,
-}
+use runs::buffers::Lengths;
 
 // The checks of place, in number order.
-pub(crate) fn check_place<S: Space>(s: &S, need: usize, lengths: Lengths) -> Result<(), Refusal>
-    ensures check { result ≡ place_check (S.Space.meaning s.now) need lengths.weights lengths.marks lengths.ledger lengths.scratch lengths.sheet }
+pub(crate) fn check_place<S: Space>(
+    s: &S,
+    need: usize,
+    lengths: Lengths,
+    sheet: usize,
+) -> Result<(), Refusal>
+    ensures check { result ≡ place_check (S.Space.meaning s.now) need lengths.weights lengths.marks lengths.ledger lengths.scratch sheet }
     ensures within { Within (S.Space.meaning s.now) }
 {
     let n = s.points() as usize;
@@ -35,7 +31,7 @@ pub(crate) fn check_place<S: Space>(s: &S, need: usize, lengths: Lengths) -> Res
     if lengths.scratch < need {
         return Err(Refusal::ShortScratch);
     }
-    if lengths.sheet < 24 * n + 320 {
+    if sheet < 24 * n + 320 {
         return Err(Refusal::ShortBuffer);
     }
     Ok(())

@@ -8,16 +8,18 @@ ghost use Rattle.sheets.specs.Bytes.{put};
 ghost use Rattle.sheets.specs.Writing.{end_bytes, end_length};
 ghost use Rattle.sheets.specs.RoundTrip.{AllReadBack};
 ghost use Rattle.placing.specs.Placements.{place_check, clean_marks, Placed, PlaceDone, OnlyOne};
+ghost use Rattle.placing.specs.Lending.{with_sheet};
+ghost use Rattle.runs.specs.Desks.{desk, Lent};
 ghost use Rattle.placing.specs.Playing.{Ready, Fitted, EndsIn, Placeable, following, points_in};
 
-use crate::check::{Lengths, check_place};
+use crate::check::check_place;
 use crate::guess::{is_ruled_out, play_guess};
 use guesses::book::{Book, Verdict};
 use nets::finder::Finder;
 use nets::verifier::Verifier;
-use ranges::number::RangeNumber;
 use ranges::refusal::Refusal;
 use ranges::space::Space;
+use runs::buffers::Buffers;
 use runs::run::Run;
 use sheets::writer::SheetWriter;
 
@@ -26,17 +28,15 @@ pub fn place<S: Space, F: Finder<S>, V: Verifier<S>>(
     s: &S,
     f: &F,
     v: &V,
-    weights: &mut [u64],
-    marks: &mut [u8],
-    ledger: &mut [RangeNumber],
-    scratch: &mut [u8],
+    buffers: &mut Buffers<'_>,
     sheet: &mut [u8],
 ) -> Result<(u16, u16, u32, usize), Refusal>
-    ensures check { verdict_of result ≡ place_check (S.Space.meaning s.now) ((F.Finder.promise f.now).need (S.Space.meaning s.now).points (S.Space.meaning s.now).ranges) (length weights.old) (length marks.old) (length ledger.old) (length scratch.old) (length sheet.old) }
-    ensures done { PlaceDone (F.Finder.promise f.now) (V.Verifier.promise v.now) (S.Space.meaning s.now) result (record { weights = weights.old; marks = marks.old; ledger = ledger.old; scratch = scratch.old; sheet = sheet.old }) (record { weights = weights.new; marks = marks.new; ledger = ledger.new; scratch = scratch.new; sheet = sheet.new }) }
-    ensures only { OnlyOne (F.Finder.promise f.now) (V.Verifier.promise v.now) (S.Space.meaning s.now) result (record { weights = weights.old; marks = marks.old; ledger = ledger.old; scratch = scratch.old; sheet = sheet.old }) (record { weights = weights.new; marks = marks.new; ledger = ledger.new; scratch = scratch.new; sheet = sheet.new }) }
+    ensures check { verdict_of result ≡ place_check (S.Space.meaning s.now) ((F.Finder.promise f.now).need (S.Space.meaning s.now).points (S.Space.meaning s.now).ranges) (length buffers.old.weights.now) (length buffers.old.marks.now) (length buffers.old.ledger.now) (length buffers.old.scratch.now) (length sheet.old) }
+    ensures done { PlaceDone (F.Finder.promise f.now) (V.Verifier.promise v.now) (S.Space.meaning s.now) result (with_sheet buffers.old sheet.old) (with_sheet buffers.new sheet.new) }
+    ensures only { OnlyOne (F.Finder.promise f.now) (V.Verifier.promise v.now) (S.Space.meaning s.now) result (with_sheet buffers.old sheet.old) (with_sheet buffers.new sheet.new) }
+    ensures lent { Lent buffers.old buffers.new }
 {
-    place_or_refuse(s, f, v, weights, marks, ledger, scratch, sheet)
+    place_or_refuse(s, f, v, buffers, sheet)
 }
 
 // The checks first, so that a refusal leaves every buffer as it was.
@@ -44,26 +44,18 @@ fn place_or_refuse<S: Space, F: Finder<S>, V: Verifier<S>>(
     s: &S,
     f: &F,
     v: &V,
-    weights: &mut [u64],
-    marks: &mut [u8],
-    ledger: &mut [RangeNumber],
-    scratch: &mut [u8],
+    buffers: &mut Buffers<'_>,
     sheet: &mut [u8],
 ) -> Result<(u16, u16, u32, usize), Refusal>
-    ensures check { verdict_of result ≡ place_check (S.Space.meaning s.now) ((F.Finder.promise f.now).need (S.Space.meaning s.now).points (S.Space.meaning s.now).ranges) (length weights.old) (length marks.old) (length ledger.old) (length scratch.old) (length sheet.old) }
-    ensures done { PlaceDone (F.Finder.promise f.now) (V.Verifier.promise v.now) (S.Space.meaning s.now) result (record { weights = weights.old; marks = marks.old; ledger = ledger.old; scratch = scratch.old; sheet = sheet.old }) (record { weights = weights.new; marks = marks.new; ledger = ledger.new; scratch = scratch.new; sheet = sheet.new }) }
-    ensures only { OnlyOne (F.Finder.promise f.now) (V.Verifier.promise v.now) (S.Space.meaning s.now) result (record { weights = weights.old; marks = marks.old; ledger = ledger.old; scratch = scratch.old; sheet = sheet.old }) (record { weights = weights.new; marks = marks.new; ledger = ledger.new; scratch = scratch.new; sheet = sheet.new }) }
+    ensures check { verdict_of result ≡ place_check (S.Space.meaning s.now) ((F.Finder.promise f.now).need (S.Space.meaning s.now).points (S.Space.meaning s.now).ranges) (length buffers.old.weights.now) (length buffers.old.marks.now) (length buffers.old.ledger.now) (length buffers.old.scratch.now) (length sheet.old) }
+    ensures done { PlaceDone (F.Finder.promise f.now) (V.Verifier.promise v.now) (S.Space.meaning s.now) result (with_sheet buffers.old sheet.old) (with_sheet buffers.new sheet.new) }
+    ensures only { OnlyOne (F.Finder.promise f.now) (V.Verifier.promise v.now) (S.Space.meaning s.now) result (with_sheet buffers.old sheet.old) (with_sheet buffers.new sheet.new) }
+    ensures lent { Lent buffers.old buffers.new }
 {
-    let lengths = Lengths {
-        weights: weights.len(),
-        marks: marks.len(),
-        ledger: ledger.len(),
-        scratch: scratch.len(),
-        sheet: sheet.len(),
-    };
-    check_place(s, f.need(s.points(), s.ranges()), lengths)?;
-    clean_marks(s, marks);
-    Ok(place_checked(s, f, v, weights, marks, ledger, scratch, sheet))
+    let need = f.need(s.points(), s.ranges());
+    check_place(s, need, buffers.lengths(), sheet.len())?;
+    clean_marks(s, buffers.marks);
+    Ok(place_checked(s, f, v, buffers, sheet))
 }
 
 // Without ranges no point is chosen.
@@ -80,36 +72,22 @@ fn place_checked<S: Space, F: Finder<S>, V: Verifier<S>>(
     s: &S,
     f: &F,
     v: &V,
-    weights: &mut [u64],
-    marks: &mut [u8],
-    ledger: &mut [RangeNumber],
-    scratch: &mut [u8],
+    buffers: &mut Buffers<'_>,
     sheet: &mut [u8],
 ) -> (u16, u16, u32, usize)
-    requires { Placeable (F.Finder.promise f.now) (S.Space.meaning s.now) (length weights.old) marks.old (length ledger.old) (length scratch.old) (length sheet.old) }
-    ensures { Placed (F.Finder.promise f.now) (V.Verifier.promise v.now) (S.Space.meaning s.now) (record { state = blank_state; weights = weights.old; marks = marks.old; ledger = ledger.old; scratch = scratch.old }) sheet.old result (record { weights = weights.new; marks = marks.new; ledger = ledger.new; scratch = scratch.new; sheet = sheet.new }) }
+    requires { Placeable (F.Finder.promise f.now) (S.Space.meaning s.now) (length buffers.old.weights.now) buffers.old.marks.now (length buffers.old.ledger.now) (length buffers.old.scratch.now) (length sheet.old) }
+    ensures placed { Placed (F.Finder.promise f.now) (V.Verifier.promise v.now) (S.Space.meaning s.now) (desk blank_state buffers.old) sheet.old result (with_sheet buffers.new sheet.new) }
+    ensures lent { Lent buffers.old buffers.new }
 {
     let mut run = Run::new();
-    match run.begin(s) {
-        Ok(()) => {}
-        Err(_) => unreachable(),
-    }
+    run.begin(s).unwrap();
     let mut writer = SheetWriter::begin();
     if s.ranges() == 0 {
+        let marks = &mut *buffers.marks;
         return finish(&run, writer, marks, 0, sheet);
     }
-    let rounds = play_guesses(
-        &mut run,
-        &mut writer,
-        s,
-        f,
-        v,
-        weights,
-        marks,
-        ledger,
-        scratch,
-        sheet,
-    );
+    let rounds = play_guesses(&mut run, &mut writer, s, f, v, buffers, sheet);
+    let marks = &mut *buffers.marks;
     finish(&run, writer, marks, rounds, sheet)
 }
 
@@ -134,10 +112,10 @@ fn finish(
 {
     let book = run.book();
     let floor = run.floor();
-    match writer.close(sheet, &book, floor, marks) {
-        Ok(len) => answer(&book, floor, rounds, len),
-        Err(_) => unreachable(),
-    }
+    let Ok(len) = writer.close(sheet, &book, floor, marks) else {
+        unreachable!()
+    };
+    answer(&book, floor, rounds, len)
 }
 
 // The four numbers: points, floor, rounds and length.
@@ -179,17 +157,15 @@ fn play_guesses<S: Space, F: Finder<S>, V: Verifier<S>>(
     s: &S,
     f: &F,
     v: &V,
-    weights: &mut [u64],
-    marks: &mut [u8],
-    ledger: &mut [RangeNumber],
-    scratch: &mut [u8],
+    buffers: &mut Buffers<'_>,
     sheet: &mut [u8],
 ) -> u32
-    requires { Ready (F.Finder.promise f.now) (V.Verifier.promise v.now) (S.Space.meaning s.now) 1 (record { state = run.old.state; weights = weights.old; marks = marks.old; ledger = ledger.old; scratch = scratch.old }) writer.old sheet.old }
-    ensures fitted { Fitted (S.Space.meaning s.now) ((F.Finder.promise f.now).need (S.Space.meaning s.now).points (S.Space.meaning s.now).ranges) (record { state = run.new.state; weights = weights.new; marks = marks.new; ledger = ledger.new; scratch = scratch.new }) }
+    requires { Ready (F.Finder.promise f.now) (V.Verifier.promise v.now) (S.Space.meaning s.now) 1 (desk run.old.state buffers.old) writer.old sheet.old }
+    ensures fitted { Fitted (S.Space.meaning s.now) ((F.Finder.promise f.now).need (S.Space.meaning s.now).points (S.Space.meaning s.now).ranges) (desk run.new.state buffers.new) }
     ensures short { writer.new.len ≤ 22 * (S.Space.meaning s.now).points + 48 }
     ensures lines { length (book_lines run.new.state.book) ≤ 13 }
-    ensures ends { EndsIn (F.Finder.promise f.now) (V.Verifier.promise v.now) (S.Space.meaning s.now) (record { state = run.old.state; weights = weights.old; marks = marks.old; ledger = ledger.old; scratch = scratch.old }) writer.old sheet.old (record { state = run.new.state; weights = weights.new; marks = marks.new; ledger = ledger.new; scratch = scratch.new }) writer.new sheet.new result }
+    ensures ends { EndsIn (F.Finder.promise f.now) (V.Verifier.promise v.now) (S.Space.meaning s.now) (desk run.old.state buffers.old) writer.old sheet.old (desk run.new.state buffers.new) writer.new sheet.new result }
+    ensures lent { Lent buffers.old buffers.new }
 {
     let n = s.points();
     let mut k = 0;
@@ -197,9 +173,7 @@ fn play_guesses<S: Space, F: Finder<S>, V: Verifier<S>>(
     // no guess yet counts as guess 0 ruled out, since the floor is 0
     while is_ruled_out(run, k) {
         k = next_guess(n, k);
-        rounds += play_guess(
-            run, writer, s, f, v, k, weights, marks, ledger, scratch, sheet,
-        ) as u32;
+        rounds += play_guess(run, writer, s, f, v, k, buffers, sheet) as u32;
     }
     rounds
 }

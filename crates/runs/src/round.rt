@@ -6,6 +6,7 @@ ghost use Rattle.nets.specs.Finders.{find_check};
 ghost use Rattle.guesses.specs.Limits.{limit_of};
 ghost use Rattle.runs.specs.Runs.{SomeGuess, FewGuess, round_check, buffer_check, miss_state, closed_state, guess_of, is_guessing, or_guess, cleared, NetAndVerdict};
 
+use crate::buffers::Lengths;
 use crate::state::{OpenGuess, Phase, State};
 use guesses::book::{GuessLine, Verdict};
 use guesses::limit::limit;
@@ -17,14 +18,6 @@ use ranges::number::RangeNumber;
 use ranges::refusal::Refusal;
 use ranges::space::Space;
 use ranges::weight::{range_weight, total_weight};
-
-// The lengths of the buffers that a round is given.
-#[derive(Clone, Copy)]
-pub(crate) struct Lengths {
-    pub marks: usize,
-    pub ledger: usize,
-    pub scratch: usize,
-}
 
 // The open guess of a round, after its checks in number order.
 pub(crate) fn check_round<S: Space>(

@@ -8,8 +8,8 @@ ghost use Rattle.runs.specs.Histories.{Event, History, Lawful, RoundDone};
 ghost use Rattle.ranges.specs.Weights.{chosen};
 ghost use Rattle.ranges.specs.Spaces.{Within};
 
-use crate::buffers::Buffers;
-use crate::round::{Lengths, check_round, closed, double_set, missed, missed_weight, play};
+use crate::buffers::{Buffers, Lengths};
+use crate::round::{check_round, closed, double_set, missed, missed_weight, play};
 use crate::state::{OpenGuess, Phase, State};
 use guesses::book::{Book, GuessLine, Verdict};
 use guesses::limit::limit;
@@ -165,15 +165,11 @@ impl Run {
         ensures scratch { buffers.new.scratch.now ≡ after result (λ _. cleared ((F.Finder.promise f.now).need (S.Space.meaning s.now).points (S.Space.meaning s.now).ranges) buffers.old.scratch.now) buffers.old.scratch.now }
         ensures lent { Lent buffers.old buffers.new }
     {
+        let lengths = buffers.lengths();
         let weights = &mut *buffers.weights;
         let marks = &mut *buffers.marks;
         let ledger = &mut *buffers.ledger;
         let scratch = &mut *buffers.scratch;
-        let lengths = Lengths {
-            marks: marks.len(),
-            ledger: ledger.len(),
-            scratch: scratch.len(),
-        };
         let guess = self.ready(s, f, weights, lengths)?;
         let (points, judged) = play(s, f, v, guess.k, weights, marks, scratch);
         match judged {

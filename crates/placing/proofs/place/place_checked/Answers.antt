@@ -1,8 +1,10 @@
-use Rattle.std.proofs.Common.{◌≡◌, ℕ, ◌<◌, [], ◌∷◌, length, sym, refl, ap, ◌∙◌, arith}
+use Rattle.std.proofs.Common.{◌≡◌, ℕ, Result, ◌<◌, [], ◌∷◌, length, sym, refl, ap, ◌∙◌, rules, arith}
 use Rattle.ranges.specs.Weights.{chosen}
 use Rattle.guesses.specs.Books.{book_lines}
 use Rattle.runs.specs.declared.state.State.{State}
-use Rattle.runs.specs.Runs.{Desk, blank_state, begun_state}
+use Rattle.runs.specs.Desks.{desk}
+use Rattle.runs.specs.Runs.{Desk, blank_state, begun_state, accepted}
+use Rattle.ranges.specs.declared.refusal.Refusal.{Refusal}
 use Rattle.runs.specs.Histories.{begun, last_line}
 use Rattle.sheets.specs.declared.writer.SheetWriter.{SheetWriter}
 use Rattle.placing.specs.Playing.{points_in}
@@ -16,10 +18,10 @@ pub finish-requires : goal.finish-requires
 finish-requires g c =
     let S = g.S.Space.meaning c.args.s.now in
     let few = c.ranges-2.ensures.within.few_points in
-    let st-is : c.begin.new.self.state ≡ begun_state S = c.in-Ok.ensures.state in
+    let st-is : c.begin.new.self.state ≡ begun_state S = (c.begin.ensures.state ∙ ap (λ (r : Result Unit Refusal). accepted r (begun_state (g.S.Space.meaning c.args.s.now)) c.new-run.result.state) c.unwrap.ensures) in
     let none : length (book_lines c.begin.new.self.state.book) ≡ 0 = ap (λ (x : State). length (book_lines x.book)) st-is in
     let len : c.begin-writer.result.len ≡ 0 = ap (λ (x : SheetWriter). x.len) c.begin-writer.ensures.value in
-    let room = end_room S.points 0 c.begin-writer.result.len (length c.args.sheet.now) (book_lines c.begin.new.self.state.book) c.args.marks.now (omega arith) c.requires.marks_long few (omega arith) c.requires.room in
+    let room = end_room S.points 0 c.begin-writer.result.len (length c.args.sheet.now) (book_lines c.begin.new.self.state.book) c.args.buffers.now.marks.now (omega arith) c.requires.marks_long few (omega arith) c.requires.room in
     record {
       marks = omega (arith, c.requires.marks_long);
       room = room.0;
@@ -32,15 +34,15 @@ returns-then-ranges-eq0 g c =
     let S = g.S.Space.meaning c.args.s.now in
     let F = g.F.Finder.promise c.args.f.now in
     let V = g.V.Verifier.promise c.args.v.now in
-    let ws = c.args.weights.now in
-    let ms = c.args.marks.now in
-    let ledger = c.args.ledger.now in
-    let scratch = c.args.scratch.now in
+    let ws = c.args.buffers.now.weights.now in
+    let ms = c.args.buffers.now.marks.now in
+    let ledger = c.args.buffers.now.ledger.now in
+    let scratch = c.args.buffers.now.scratch.now in
     let sheet = c.args.sheet.now in
     let within = c.ranges-2.ensures.within in
     let st = c.begin.new.self.state in
     let w = c.begin-writer.result in
-    let st-is : st ≡ begun_state S = c.in-Ok.ensures.state in
+    let st-is : st ≡ begun_state S = (c.begin.ensures.state ∙ ap (λ (r : Result Unit Refusal). accepted r (begun_state (g.S.Space.meaning c.args.s.now)) c.new-run.result.state) c.unwrap.ensures) in
     let none : length (book_lines st.book) ≡ 0 = ap (λ (x : State). length (book_lines x.book)) st-is in
     let len : w.len ≡ 0 = ap (λ (x : SheetWriter). x.len) c.begin-writer.ensures.value in
     let bare : S.ranges ≡ 0 = sym c.ranges-2.ensures.value ∙ c.if-ranges-eq0.true in
@@ -52,12 +54,16 @@ returns-then-ranges-eq0 g c =
     let r = c.finish.result in
     let e = c.finish.ensures in
     let same : length after ≡ length sheet = omega arith in
-    let points : r.0 ≡ chosen ms = e.points ∙ ap (λ (x : State). points_in (last_line (book_lines x.book))) st-is ∙ sym (c.requires.clean bare) in (
-      st,
-      begun ∷ [],
-      placement F V S from d (begun ∷ []) w sheet sheet after 0 r.3 story e.length room.0 same e.bytes e.back r.0 r.1 r.2 points e.floor e.rounds ((λ _. refl), (λ some. absurd (omega arith))),
-      worth F V S from d (begun ∷ []) w sheet sheet after 0 r.3 story e.length room.0 same e.bytes e.back within refl (λ j l. absurd (omega arith)) (λ k is. (let z : ◌≡◌ {A = ℕ} 0 1 = cc in absurd (omega arith))),
-    )
+    let points : r.0 ≡ chosen ms = e.points ∙ ap (λ (x : State). points_in (last_line (book_lines x.book))) st-is ∙ sym (c.requires.clean bare) in
+    record {
+      lent = search rules;
+      placed = (
+        st,
+        begun ∷ [],
+        placement F V S from d (begun ∷ []) w sheet sheet after 0 r.3 story e.length room.0 same e.bytes e.back r.0 r.1 r.2 points e.floor e.rounds ((λ _. refl), (λ some. absurd (omega arith))),
+        worth F V S from d (begun ∷ []) w sheet sheet after 0 r.3 story e.length room.0 same e.bytes e.back within refl (λ j l. absurd (omega arith)) (λ k is. (let z : ◌≡◌ {A = ℕ} 0 1 = cc in absurd (omega arith))),
+      );
+    }
 
 pub play_guesses-rounds-requires : goal.play_guesses-rounds-requires
 play_guesses-rounds-requires g c =
@@ -65,30 +71,30 @@ play_guesses-rounds-requires g c =
     let F = g.F.Finder.promise c.args.f.now in
     let V = g.V.Verifier.promise c.args.v.now in
     let some : 0 < S.ranges = ranges-some c.ranges-2.result S.ranges c.ranges-2.ensures.value c.if-ranges-eq0.false in
-    begin_ready F V S c.args.weights.now c.args.marks.now c.args.ledger.now c.args.scratch.now c.args.sheet.now c.ranges-2.ensures.within c.requires c.begin.new.self.state c.begin-writer.result
-    c.in-Ok.ensures.state c.begin-writer.ensures.value (c.begin-writer.ensures.written c.args.sheet.now) some
+    begin_ready F V S c.args.buffers.now.weights.now c.args.buffers.now.marks.now c.args.buffers.now.ledger.now c.args.buffers.now.scratch.now c.args.sheet.now c.ranges-2.ensures.within c.requires c.begin.new.self.state c.begin-writer.result
+    (c.begin.ensures.state ∙ ap (λ (r : Result Unit Refusal). accepted r (begun_state (g.S.Space.meaning c.args.s.now)) c.new-run.result.state) c.unwrap.ensures) c.begin-writer.ensures.value (c.begin-writer.ensures.written c.args.sheet.now) some
 
 pub finish-requires-2 : goal.finish-requires-2
 finish-requires-2 g c =
     let S = g.S.Space.meaning c.args.s.now in
     let F = g.F.Finder.promise c.args.f.now in
     let V = g.V.Verifier.promise c.args.v.now in
-    let ws = c.args.weights.now in
-    let ms = c.args.marks.now in
-    let ledger = c.args.ledger.now in
-    let scratch = c.args.scratch.now in
+    let ws = c.args.buffers.now.weights.now in
+    let ms = c.args.buffers.now.marks.now in
+    let ledger = c.args.buffers.now.ledger.now in
+    let scratch = c.args.buffers.now.scratch.now in
     let sheet = c.args.sheet.now in
     let within = c.ranges-2.ensures.within in
     let st = c.begin.new.self.state in
     let w = c.begin-writer.result in
     let from : Desk = record { state = blank_state; weights = ws; marks = ms; ledger = ledger; scratch = scratch } in
-    let ahead = begin_ahead F V S ws ms ledger scratch sheet within c.requires st w c.in-Ok.ensures.state c.begin-writer.ensures.value (c.begin-writer.ensures.written sheet) in
+    let ahead = begin_ahead F V S ws ms ledger scratch sheet within c.requires st w (c.begin.ensures.state ∙ ap (λ (r : Result Unit Refusal). accepted r (begun_state (g.S.Space.meaning c.args.s.now)) c.new-run.result.state) c.unwrap.ensures) c.begin-writer.ensures.value (c.begin-writer.ensures.written sheet) in
     let e = c.play_guesses-rounds.ensures in
     let last = c.play_guesses-rounds.new in
-    let d : Desk = record { state = last.run.state; weights = last.weights; marks = last.marks; ledger = last.ledger; scratch = last.scratch } in
+    let d : Desk = desk last.run.state last.buffers in
     let done = e.ends from sheet refl ahead in
     let long : length last.sheet ≡ length sheet = omega arith in
-    let room = end_room S.points 0 last.writer.len (length last.sheet) (book_lines last.run.state.book) last.marks e.lines e.fitted.marks within.few_points e.short (omega (arith, c.requires.room)) in
+    let room = end_room S.points 0 last.writer.len (length last.sheet) (book_lines last.run.state.book) last.buffers.marks.now e.lines e.fitted.marks within.few_points e.short (omega (arith, c.requires.room)) in
     record {
       marks = omega (arith, e.fitted.marks, within.few_points);
       room = room.0;
@@ -101,20 +107,20 @@ returns g c =
     let S = g.S.Space.meaning c.args.s.now in
     let F = g.F.Finder.promise c.args.f.now in
     let V = g.V.Verifier.promise c.args.v.now in
-    let ws = c.args.weights.now in
-    let ms = c.args.marks.now in
-    let ledger = c.args.ledger.now in
-    let scratch = c.args.scratch.now in
+    let ws = c.args.buffers.now.weights.now in
+    let ms = c.args.buffers.now.marks.now in
+    let ledger = c.args.buffers.now.ledger.now in
+    let scratch = c.args.buffers.now.scratch.now in
     let sheet = c.args.sheet.now in
     let within = c.ranges-2.ensures.within in
     let st = c.begin.new.self.state in
     let w = c.begin-writer.result in
     let from : Desk = record { state = blank_state; weights = ws; marks = ms; ledger = ledger; scratch = scratch } in
-    let ahead = begin_ahead F V S ws ms ledger scratch sheet within c.requires st w c.in-Ok.ensures.state c.begin-writer.ensures.value (c.begin-writer.ensures.written sheet) in
+    let ahead = begin_ahead F V S ws ms ledger scratch sheet within c.requires st w (c.begin.ensures.state ∙ ap (λ (r : Result Unit Refusal). accepted r (begun_state (g.S.Space.meaning c.args.s.now)) c.new-run.result.state) c.unwrap.ensures) c.begin-writer.ensures.value (c.begin-writer.ensures.written sheet) in
     let some : 0 < S.ranges = ranges-some c.ranges-2.result S.ranges c.ranges-2.ensures.value c.if-ranges-eq0.false in
     let p = c.play_guesses-rounds.ensures in
     let last = c.play_guesses-rounds.new in
-    let d : Desk = record { state = last.run.state; weights = last.weights; marks = last.marks; ledger = last.ledger; scratch = last.scratch } in
+    let d : Desk = desk last.run.state last.buffers in
     let done = p.ends from sheet refl ahead in
     let es = done.0 in
     let story = done.1 in
@@ -123,14 +129,18 @@ returns g c =
     let r = c.finish-2.result in
     let e = c.finish-2.ensures in
     let before-long : length last.sheet ≡ length sheet = omega arith in
-    let room = end_room S.points 0 last.writer.len (length last.sheet) (book_lines last.run.state.book) last.marks p.lines p.fitted.marks within.few_points p.short (omega (arith, c.requires.room)) in
+    let room = end_room S.points 0 last.writer.len (length last.sheet) (book_lines last.run.state.book) last.buffers.marks.now p.lines p.fitted.marks within.few_points p.short (omega (arith, c.requires.room)) in
     let same : length after ≡ length last.sheet = omega arith in
-    let points : r.0 ≡ chosen last.marks = e.points ∙ hit_points_lem F V S from d es within refl story.way hit.0 hit.1 hit.2 hit.3 hit.4 hit.5 hit.6 in (
-      last.run.state,
-      es,
-      placement F V S from d es last.writer last.sheet sheet after c.play_guesses-rounds.result r.3 story e.length room.0 same e.bytes e.back r.0 r.1 r.2 points e.floor e.rounds
-          (hit_finished F V S from d es within refl story.way hit.0 hit.1 hit.2 hit.3 hit.4 hit.5 hit.6 some),
-      worth F V S from d es last.writer last.sheet sheet after c.play_guesses-rounds.result r.3 story e.length room.0 same e.bytes e.back within refl
-          (hit_right F V S from d es within refl story.way hit.0 hit.1 hit.2 hit.3 hit.4 hit.5 hit.6).0
-          (hit_few F V S from d es within refl story.way hit.0 hit.1 hit.2 hit.3 hit.4 hit.5 hit.6),
-    )
+    let points : r.0 ≡ chosen last.buffers.marks.now = e.points ∙ hit_points_lem F V S from d es within refl story.way hit.0 hit.1 hit.2 hit.3 hit.4 hit.5 hit.6 in
+    record {
+      lent = (let l = c.play_guesses-rounds.ensures.lent in record { weights = l.weights; marks = l.marks; ledger = l.ledger; scratch = l.scratch });
+      placed = (
+        last.run.state,
+        es,
+        placement F V S from d es last.writer last.sheet sheet after c.play_guesses-rounds.result r.3 story e.length room.0 same e.bytes e.back r.0 r.1 r.2 points e.floor e.rounds
+            (hit_finished F V S from d es within refl story.way hit.0 hit.1 hit.2 hit.3 hit.4 hit.5 hit.6 some),
+        worth F V S from d es last.writer last.sheet sheet after c.play_guesses-rounds.result r.3 story e.length room.0 same e.bytes e.back within refl
+            (hit_right F V S from d es within refl story.way hit.0 hit.1 hit.2 hit.3 hit.4 hit.5 hit.6).0
+            (hit_few F V S from d es within refl story.way hit.0 hit.1 hit.2 hit.3 hit.4 hit.5 hit.6),
+      );
+    }
