@@ -1,14 +1,8 @@
 -- A test of every number below n.
-use Rattle.std.proofs.Common.{true≢false, ◌≡◌, ℕ, zero, suc, ◌+◌, ◌<◌, Bool, true, false, ◌&&◌, List, [], ◌∷◌, length, get_or, sym, ap, refl, ◌∙◌, inl, inr, eq-or-lt_of_le, add-one, arith}
+use Rattle.std.proofs.Common.{true≢false, ◌≡◌, ℕ, zero, suc, ◌<◌, Bool, true, false, ◌&&◌, List, [], ◌∷◌, length, get_or, sym, ap, refl, ◌∙◌, inl, inr, eq-or-lt_of_le, arith}
 use Rattle.std.proofs.lemmas.Bool.{cases_Bool, and_from, and_left, and_right}
 use Rattle.std.specs.List.{list_all}
 use Rattle.sheets.specs.Lines.{all_below}
-
-all_suc : (t : ℕ → Bool) (n : ℕ) → all_below t (suc n) ≡ (t n && all_below t n)
-all_suc t n = refl
-
-pub all_more : (t : ℕ → Bool) (n : ℕ) → t n ≡ true → all_below t n ≡ true → all_below t (n + 1) ≡ true
-all_more t n here before = rw add-one (all_suc t n ∙ and_from (t n) (all_below t n) here before)
 
 -- one that fails is enough
 pub all_not : (t : ℕ → Bool) (n i : ℕ) → i < n → t i ≡ false → all_below t n ≡ false

@@ -4,7 +4,7 @@ ghost use Rattle.ranges.specs.declared.refusal.Refusal.TheVariants.{BadSheet};
 ghost use Rattle.sheets.specs.Sheets.{code, hit_points, line_bytes, LineFits};
 ghost use Rattle.sheets.specs.Lines.{verdict_of, verdict_stands, line_in};
 
-use crate::bytes::read;
+use crate::bytes::{read, store};
 use guesses::book::{GuessLine, Verdict};
 use ranges::refusal::Refusal;
 
@@ -50,20 +50,12 @@ pub(crate) fn line_bytes(line: GuessLine) -> [u8; 8]
     ensures fits { LineFits line }
 {
     let coded = Coded::from(line.verdict);
-    let [k, k_high] = line.k.to_le_bytes();
-    let [doublings, doublings_high] = line.doublings.to_le_bytes();
-    let [code, code_high] = coded.code.to_le_bytes();
-    let [points, points_high] = coded.points.to_le_bytes();
-    [
-        k,
-        k_high,
-        doublings,
-        doublings_high,
-        code,
-        code_high,
-        points,
-        points_high,
-    ]
+    let mut bytes = [0; 8];
+    store(&mut bytes, 0, &line.k.to_le_bytes());
+    store(&mut bytes, 2, &line.doublings.to_le_bytes());
+    store(&mut bytes, 4, &coded.code.to_le_bytes());
+    store(&mut bytes, 6, &coded.points.to_le_bytes());
+    bytes
 }
 
 // The line that these bytes are; there is none where no verdict has the number.

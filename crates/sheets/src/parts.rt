@@ -9,6 +9,7 @@ use crate::line::line_bytes;
 use guesses::book::Book;
 use ranges::number::RangeNumber;
 
+// A function, since only of a parameter it is known that its number has two bytes.
 fn range_bytes(line: RangeNumber) -> [u8; 2]
     ensures bytes { result ≡ bytes16 line.0 }
     ensures fit { Fit line.0 }
@@ -48,7 +49,7 @@ pub(crate) fn store_book(sheet: &mut [u8], at: usize, book: &Book)
     }
 }
 
-// How many points are marked.
+// How many points are marked: their byte is 1.
 #[tactic(auto, using(crate::proofs::Points::counted_marks))]
 pub(crate) fn count_marked(marks: &[u8]) -> usize
     requires { length marks.now ≤ 4096 }
@@ -58,7 +59,7 @@ pub(crate) fn count_marked(marks: &[u8]) -> usize
     marks.iter().filter(|mark| **mark == 1).count()
 }
 
-// The numbers of the marked points, ascending.
+// The numbers of the marked points, ascending; the next place is counted, since a mark's index says nothing of it.
 pub(crate) fn store_points(sheet: &mut [u8], at: usize, marks: &[u8])
     requires room { at + 2 * length (chosen_points marks.now) ≤ length sheet.old }
     requires few { length marks.now ≤ 4096 }

@@ -5,7 +5,7 @@ ghost use Rattle.sheets.specs.Trailers.{trailer_bytes, trailer_at};
 
 use crate::bytes::{read, store};
 
-// The place that says that there is no ledger.
+// The place by which the format says that there is no ledger; the writer's state keeps it, a plain number by the project's scope.
 pub const NO_LEDGER: u32 = 0xffff_ffff;
 
 #[derive(Clone, Copy)]
