@@ -2,11 +2,9 @@
 ghost use Rattle.std.specs.Prelude.{[], ◌∷◌, MatchOption, IsTrue, Some, ◌≡◌, ◌*◌, ◌^◌, ◌<◌, ◌≤◌};
 ghost use Rattle.guesses.specs.Limits.{steps, fourth, doublings_of, is_no_guess, limit_of, limit_if, LimitLaw, WorkedLimits};
 
-#[tactic(auto, using(crate::proofs::Limits::fourth_most))]
 fn fourth_power(x: u16) -> u64
     requires { x ≤ 4096 }
-    ensures value { result ≡ fourth x }
-    ensures most { result ≤ 2 ^ 48 }
+    ensures { result ≡ fourth x }
 {
     let s = x as u64 * x as u64;
     s * s
@@ -15,8 +13,8 @@ fn fourth_power(x: u16) -> u64
 // How often `p` is doubled until it is above `q`: once for each binary digit of `q / p`.
 #[tactic(auto, using(crate::proofs::Limits::steps_digits))]
 fn doublings(p: u64, q: u64) -> u16
-    requires some { 0 < p }
-    ensures value { result ≡ steps 64 p q }
+    requires { 0 < p }
+    ensures { result ≡ steps 64 p q }
 {
     (64 - (q / p).leading_zeros()) as u16
 }

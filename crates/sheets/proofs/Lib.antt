@@ -3,6 +3,8 @@ pub mod Stores
 pub mod Points
 pub mod Written
 pub mod All
+pub mod Chunks
+pub mod Sections
 pub mod Numbers
 pub mod ReadBack
 pub mod Whole

@@ -1,5 +1,6 @@
 -- Bytes stored one by one, and numbers of 16 bits stored one after the other.
-use Rattle.std.proofs.Common.{◌≡◌, ℕ, ◌+◌, ◌*◌, ◌≤◌, List, [], ◌∷◌, ◌++◌, length, set, sym, refl, ap, ◌∙◌, mul-suc, add-one, arith, length-append}
+use Rattle.std.proofs.Common.{◌≡◌, ℕ, ◌+◌, ◌*◌, ◌≤◌, List, [], ◌∷◌, ◌++◌, length, take, ◌-◌, set, sym, refl, ap, ◌∙◌, mul-suc, add-one, arith, length-append}
+use borrow.Rule.Slice.PartMut.{put_mid, Post-is}
 use lib.Seq.{sets, sets-eq}
 use Rattle.std.specs.List.{flat_map}
 use Rattle.std.proofs.lemmas.List.{append_assoc}
@@ -12,6 +13,13 @@ stored_sets (b ∷ bs) s at = ap (λ i. stored (set s at b) i bs) (add-one at) �
 -- stores one by one put the bytes in the place of others
 pub stored_put : (bs s : List ℕ) (at : ℕ) → at + length bs ≤ length s → stored s at bs ≡ put s at bs
 stored_put bs s at h = stored_sets bs s at ∙ sets-eq bs s at h ∙ append_assoc _ bs _
+
+-- and so do stores at once
+pub stored_mid : (bs cs s : List ℕ) (at : ℕ) → cs ≡ bs → at + length bs ≤ length s → put_mid at (at + length bs - at) s cs ≡ stored s at bs
+stored_mid bs cs s at e h =
+    ap (put_mid at (at + length bs - at) s) e
+    ∙ ap (λ rest. take at s ++ (bs ++ rest)) (Post-is at (at + length bs) s (omega arith))
+    ∙ sym (stored_put bs s at h)
 
 pub stored_append : (bs cs s : List ℕ) (at : ℕ) → stored s at (bs ++ cs) ≡ stored (stored s at bs) (at + length bs) cs
 stored_append [] cs s at = ap (λ i. stored s i cs) (omega arith)

@@ -1,4 +1,5 @@
 pub mod Bytes
+pub mod Lines
 pub mod Trailers
 pub mod Sheets
 pub mod Writing

@@ -1,26 +1,19 @@
 -- Which bytes are a sheet, and what a sheet says.
-use Rattle.std.specs.Prelude.{ℕ, zero, suc, ◌+◌, ◌-◌, ◌*◌, ◌/◌, ◌%◌, Bool, true, cond, not, ◌&&◌, ◌||◌, List, length, take, drop, Some, None, Ok, Err, Option, Result, ◌==◌, nat_le, nat_lt}
-use Rattle.ranges.specs.declared.number.PointNumber.{PointNumber}
+use Rattle.std.specs.Prelude.{ℕ, ◌+◌, ◌-◌, ◌*◌, ◌/◌, ◌%◌, Bool, cond, not, ◌&&◌, ◌||◌, List, length, take, drop, Ok, Err, Result, ◌==◌, nat_le, nat_lt}
 use Rattle.ranges.specs.declared.number.RangeNumber.{RangeNumber}
 use Rattle.ranges.specs.declared.refusal.Refusal.{Refusal}
 use Rattle.ranges.specs.declared.refusal.Refusal.TheVariants.{BadSheet}
 use Rattle.ranges.specs.Weights.{tabulated}
 use Rattle.guesses.specs.declared.book.GuessLine.{GuessLine}
-use Rattle.guesses.specs.declared.book.Verdict.{Verdict}
-use Rattle.guesses.specs.declared.book.Verdict.TheVariants.{Open, Hit, RuledOut, GivenUp}
-use Rattle.sheets.specs.declared.reader.Sheet.{Sheet}
+use Rattle.sheets.specs.declared.sheet.Sheet.{Sheet}
 use Rattle.sheets.specs.declared.trailer.Trailer.{Trailer}
 use Rattle.sheets.specs.Bytes.{get16}
+pub use Rattle.sheets.specs.Lines.{all_below, verdict_stands, verdicts_stand, verdict_of, line_in, range_in, point_in, if_below}
 use Rattle.sheets.specs.Trailers.{trailer_at, no_ledger}
 
 -- the bytes from i up to j
 abbrev pub part : List ℕ → ℕ → ℕ → List ℕ
 part s i j = take (j - i) (drop i s)
-
--- whether every number below n passes the test
-abbrev pub all_below : (ℕ → Bool) → ℕ → Bool
-all_below t zero = true
-all_below t (suc n) = t n && all_below t n
 
 abbrev pub trailer_place : List ℕ → ℕ
 trailer_place s = length s - 16
@@ -47,13 +40,6 @@ in_order t end = nat_le t.book t.points && nat_le t.points end
 
 abbrev pub places_stand : List ℕ → Bool
 places_stand s = nat_le 16 (length s) && in_order (trailer_of s) (trailer_place s)
-
--- the verdict of line i is from 0 to 3
-abbrev pub verdict_stands : List ℕ → ℕ → Bool
-verdict_stands b i = nat_le (get16 b (8 * i + 4)) 3
-
-abbrev pub verdicts_stand : List ℕ → Bool
-verdicts_stand b = all_below (verdict_stands b) (length b / 8)
 
 -- the book has whole lines, at most 24, each with a verdict
 abbrev pub book_stands : List ℕ → Bool
@@ -117,28 +103,6 @@ held p = record { book = p.book.now; points = p.points.now; ledger = p.ledger.no
 abbrev pub contents : Result Sheet Refusal → Result Content Refusal
 contents (Ok p) = Ok (held p)
 contents (Err e) = Err e
-
-abbrev pub verdict_of : ℕ → ℕ → Verdict
-verdict_of code points = cond (code == 0) Open (cond (code == 1) (Hit points) (cond (code == 2) RuledOut GivenUp))
-
--- line i of a book, of a ledger, and point i
-abbrev pub line_in : List ℕ → ℕ → GuessLine
-line_in b i =
-    record {
-      k = get16 b (8 * i);
-      doublings = get16 b (8 * i + 2);
-      verdict = verdict_of (get16 b (8 * i + 4)) (get16 b (8 * i + 6));
-    }
-
-abbrev pub range_in : List ℕ → ℕ → RangeNumber
-range_in l i = record { 0 = get16 l (2 * i) }
-
-abbrev pub point_in : List ℕ → ℕ → PointNumber
-point_in p i = record { 0 = get16 p (2 * i) }
-
--- the one of number i, if there are more than i
-abbrev pub if_below : {A : Type 0} → ℕ → ℕ → A → Option A
-if_below i n x = cond (nat_lt i n) (Some x) None
 
 -- what a sheet says: its guesses, points and last ledger, n and the floor
 pub record Told : Type 0 where

@@ -1,38 +1,31 @@
-// Numbers as bytes, least significant first.
-ghost use Rattle.std.specs.Prelude.{◌≡◌, ◌+◌, ◌≤◌, length};
-ghost use Rattle.sheets.specs.Bytes.{Fit, bytes16, bytes32, stored, get16, get32};
+// Bytes laid into a sheet, and read from it.
+ghost use Rattle.std.specs.Prelude.{◌≡◌, ◌+◌, ◌≤◌, ◌*◌, ◌/◌, ◌<◌, length, take, drop, MatchOption};
+ghost use Rattle.sheets.specs.Bytes.{stored};
 
-pub(crate) fn store16(sheet: &mut [u8], at: usize, x: u16)
-    requires { at + 2 ≤ length sheet.old }
-    ensures fit { Fit x }
-    ensures bytes { sheet.new ≡ stored sheet.old at (bytes16 x) }
+// Puts bytes in the place of those from `at` on.
+#[tactic(auto, using(crate::proofs::Stores::stored_mid))]
+pub(crate) fn store(sheet: &mut [u8], at: usize, bytes: &[u8])
+    requires { at + length bytes.now ≤ length sheet.old }
+    ensures { sheet.new ≡ stored sheet.old at bytes.now }
 {
-    let [low, high] = x.to_le_bytes();
-    sheet[at] = low;
-    sheet[at + 1] = high;
+    sheet[at..at + bytes.len()].copy_from_slice(bytes);
 }
 
-pub(crate) fn store32(sheet: &mut [u8], at: usize, x: u32)
-    requires { at + 4 ≤ length sheet.old }
-    ensures { sheet.new ≡ stored sheet.old at (bytes32 x) }
+// The N bytes from `at` on.
+pub(crate) fn read<const N: usize>(sheet: &[u8], at: usize) -> [u8; N]
+    requires { at + N ≤ length sheet.now }
+    ensures { result ≡ take N (drop at sheet.now) }
 {
-    let [low, second, third, high] = x.to_le_bytes();
-    sheet[at] = low;
-    sheet[at + 1] = second;
-    sheet[at + 2] = third;
-    sheet[at + 3] = high;
+    let mut bytes = [0; N];
+    bytes.copy_from_slice(&sheet[at..at + N]);
+    bytes
 }
 
-pub(crate) fn read16(sheet: &[u8], at: usize) -> u16
-    requires { at + 2 ≤ length sheet.now }
-    ensures { result ≡ get16 sheet.now at }
+// The N bytes of number i, of bytes that are cut into such pieces.
+#[tactic(auto, using(crate::proofs::Chunks::chunk_at))]
+pub(crate) fn piece<const N: usize>(bytes: &[u8], i: usize) -> Option<&[u8; N]>
+    requires { 0 < N }
+    ensures { MatchOption result (length bytes.now / N ≤ i) (λ p. (i < length bytes.now / N) × (p.now ≡ take N (drop (N * i) bytes.now))) }
 {
-    u16::from_le_bytes([sheet[at], sheet[at + 1]])
-}
-
-pub(crate) fn read32(sheet: &[u8], at: usize) -> u32
-    requires { at + 4 ≤ length sheet.now }
-    ensures { result ≡ get32 sheet.now at }
-{
-    u32::from_le_bytes([sheet[at], sheet[at + 1], sheet[at + 2], sheet[at + 3]])
+    bytes.as_chunks().0.get(i)
 }

@@ -2,8 +2,10 @@
 #![tactic(auto)]
 
 mod bytes;
+mod line;
 mod parts;
 pub mod reader;
+pub mod sheet;
 pub mod single;
 mod trailer;
 pub mod writer;

@@ -1,217 +1,134 @@
-// The reader of sheets: tests a sheet, and hands out its parts as they lie in it.
-ghost use Rattle.std.specs.Prelude.{◌≡◌, ◌+◌, ◌*◌, ◌/◌, ◌≤◌, length};
-ghost use Rattle.sheets.specs.Reading.{in_order, verdict_stands, verdicts_stand, book_stands, point_stands, points_rise, points_stand, ledger_stands, ledgers_stand, lines_place, read_sheet, contents, verdict_of, line_in, point_in, range_in, if_below};
+// The reader of sheets: tests a sheet, and finds its parts.
+ghost use Rattle.std.specs.Prelude.{◌≡◌, ◌+◌, ◌*◌, ◌/◌, ◌<◌, ◌≤◌, true, false, length, MatchOption, nat_lt, ◌&&◌};
+ghost use Rattle.std.specs.List.{list_all};
+ghost use Rattle.sheets.specs.Bytes.{get16};
+ghost use Rattle.sheets.specs.Lines.{all_below, verdict_stands, verdicts_stand, ascends_at};
+ghost use Rattle.sheets.specs.Reading.{part, book_stands, points_stand, ledger_stands, ledgers_stand, lines_place, accepted, content, held, read_sheet, contents};
 
-use crate::bytes::read16;
+use crate::bytes::read;
+use crate::line::line_from;
+pub use crate::sheet::Sheet;
 use crate::trailer::{NO_LEDGER, Trailer, read_trailer};
-use guesses::book::{GuessLine, Verdict};
-use ranges::number::{PointNumber, RangeNumber};
 use ranges::refusal::Refusal;
 
-// The parts of an accepted sheet.
-#[derive(Clone, Copy)]
-pub struct Sheet<'a> {
-    book: &'a [u8],
-    points: &'a [u8],
-    ledger: &'a [u8],
-    n: u16,
-    floor: u16,
-}
-
-fn in_order(t: &Trailer, end: usize) -> bool
-    ensures { result ≡ in_order t.now end }
+fn has_verdict(line: &[u8; 8]) -> bool
+    ensures { result ≡ verdict_stands line.now 0 }
 {
-    t.book <= t.points && t.points as usize <= end
+    line_from(line).is_ok()
 }
 
-fn verdict_stands(book: &[u8], i: usize) -> bool
-    requires { 8 * i + 8 ≤ length book.now }
-    ensures { result ≡ verdict_stands book.now i }
+fn have_verdicts(lines: &[[u8; 8]]) -> bool
+    ensures { result ≡ list_all (λ l. verdict_stands l 0) lines.now }
 {
-    read16(book, 8 * i + 4) <= 3
+    lines.iter().all(has_verdict)
 }
 
-fn verdicts_stand(book: &[u8]) -> bool
-    ensures { result ≡ verdicts_stand book.now }
-{
-    for i in 0..book.len() / 8 {
-        if !verdict_stands(book, i) {
-            return false;
-        }
-    }
-    true
-}
-
+#[tactic(auto, using(crate::proofs::Chunks::all_verdicts))]
 fn book_stands(book: &[u8]) -> bool
     ensures { result ≡ book_stands book.now }
 {
-    book.len() % 8 == 0 && book.len() / 8 <= 24 && verdicts_stand(book)
+    let (lines, rest) = book.as_chunks();
+    rest.is_empty() && lines.len() <= 24 && have_verdicts(lines)
 }
 
-fn point_stands(points: &[u8], n: u16, i: usize) -> bool
-    requires { 2 * i + 2 ≤ length points.now }
-    ensures { result ≡ point_stands points.now n i }
+fn are_below(points: &[[u8; 2]], n: u16) -> bool
+    ensures { result ≡ list_all (λ p. nat_lt (get16 p 0) n) points.now }
 {
-    let p = read16(points, 2 * i);
-    p < n && (i == 0 || read16(points, 2 * (i - 1)) < p)
+    points.iter().all(|p| u16::from_le_bytes(*p) < n)
 }
 
-fn points_rise(points: &[u8], n: u16) -> bool
-    ensures { result ≡ points_rise points.now n }
+// Whether each point lies above the one before it.
+fn points_ascend(points: &[[u8; 2]]) -> bool
+    ensures { result ≡ all_below (ascends_at points.now) (length points.now) }
 {
-    for i in 0..points.len() / 2 {
-        if !point_stands(points, n, i) {
-            return false;
-        }
-    }
-    true
+    points.is_sorted_by(|p, q| u16::from_le_bytes(*p) < u16::from_le_bytes(*q))
 }
 
+fn points_rise(points: &[[u8; 2]], n: u16) -> bool
+    ensures { result ≡ (list_all (λ p. nat_lt (get16 p 0) n) points.now && all_below (ascends_at points.now) (length points.now)) }
+{
+    are_below(points, n) && points_ascend(points)
+}
+
+#[tactic(auto, using(crate::proofs::Chunks::all_rise))]
 fn points_stand(points: &[u8], n: u16) -> bool
     ensures { result ≡ points_stand points.now n }
 {
-    points.len() % 2 == 0 && n <= 4096 && points_rise(points, n)
+    let (points, rest) = points.as_chunks();
+    rest.is_empty() && n <= 4096 && points_rise(points, n)
 }
 
-// The place is tested first, since the section is read only where it lies within the sheet.
-fn ledger_stands(bytes: &[u8], t: &Trailer) -> bool
-    requires { t.now.book ≤ length bytes.now }
-    ensures { result ≡ ledger_stands bytes.now t.now }
+// A ledger section as it lies in a sheet: its guess, how many lines it counts, and the lines.
+#[derive(Clone, Copy)]
+struct Section<'a> {
+    guess: u16,
+    count: u16,
+    lines: &'a [u8],
+}
+
+// The bytes from `place` up to `end` as a section, if they are long enough for its head.
+fn section_at(bytes: &[u8], place: usize, end: usize) -> Option<Section<'_>>
+    requires { end ≤ length bytes.now }
+    ensures { MatchOption result (end < place + 4) (λ s. (place + 4 + length s.lines.now ≡ end) × (s.guess ≡ get16 bytes.now place) × (s.count ≡ get16 bytes.now (place + 2)) × (s.lines.now ≡ part bytes.now (place + 4) end)) }
 {
-    let place = t.ledger as usize;
-    let book = t.book as usize;
-    if place + 4 > book {
-        return false;
-    }
-    read16(bytes, place) == t.floor
-        && t.floor != 0
-        && place + 4 + 2 * read16(bytes, place + 2) as usize == book
+    let section = bytes.get(place..end)?;
+    let lines = section.get(4..)?;
+    Some(Section {
+        guess: u16::from_le_bytes(read(section, 0)),
+        count: u16::from_le_bytes(read(section, 2)),
+        lines,
+    })
 }
 
-fn ledgers_stand(bytes: &[u8], t: &Trailer) -> bool
+// The lines of the section that ends where the book begins, if it is there and its guess is the floor.
+fn section_lines<'a>(bytes: &'a [u8], t: &Trailer) -> Option<&'a [u8]>
     requires { t.now.book ≤ length bytes.now }
-    ensures { result ≡ ledgers_stand bytes.now t.now }
+    ensures { MatchOption result (ledger_stands bytes.now t.now ≡ false) (λ lines. (ledger_stands bytes.now t.now ≡ true) × (lines.now ≡ part bytes.now (t.now.ledger + 4) t.now.book)) }
+{
+    let section = section_at(bytes, t.ledger as usize, t.book as usize)?;
+    if section.guess != t.floor
+        || t.floor == 0
+        || section.lines.len() != 2 * section.count as usize
+    {
+        return None;
+    }
+    Some(section.lines)
+}
+
+// The lines of the last ledger; without a ledger there are none, and the floor and the book's place are 0.
+fn ledger_lines<'a>(bytes: &'a [u8], t: &Trailer) -> Option<&'a [u8]>
+    requires { t.now.book ≤ length bytes.now }
+    ensures { MatchOption result (ledgers_stand bytes.now t.now ≡ false) (λ lines. (ledgers_stand bytes.now t.now ≡ true) × (lines.now ≡ part bytes.now (lines_place t.now) t.now.book)) }
 {
     if t.ledger == NO_LEDGER {
-        t.floor == 0 && t.book == 0
-    } else {
-        ledger_stands(bytes, t)
+        return (t.floor == 0 && t.book == 0).then_some(&bytes[..0]);
     }
+    section_lines(bytes, t)
 }
 
-fn lines_place(t: &Trailer) -> usize
-    ensures { result ≡ lines_place t.now }
+// The parts of a sheet, if these bytes are one.
+fn parts(bytes: &[u8]) -> Option<Sheet<'_>>
+    ensures { MatchOption result (accepted bytes.now ≡ false) (λ sheet. (accepted bytes.now ≡ true) × (held sheet ≡ content bytes.now)) }
 {
-    if t.ledger == NO_LEDGER {
-        0
-    } else {
-        t.ledger as usize + 4
-    }
-}
-
-pub fn read_sheet(bytes: &[u8]) -> Result<Sheet<'_>, Refusal>
-    ensures { contents result ≡ read_sheet bytes.now }
-{
-    if bytes.len() < 16 {
-        return Err(Refusal::BadSheet);
-    }
-    let end = bytes.len() - 16;
+    let end = bytes.len().checked_sub(16)?;
     let t = read_trailer(bytes, end);
-    if !in_order(&t, end) {
-        return Err(Refusal::BadSheet);
+    let points = bytes.get(t.points as usize..end)?;
+    let book = bytes.get(t.book as usize..t.points as usize)?;
+    let ledger = ledger_lines(bytes, &t)?;
+    if !book_stands(book) || !points_stand(points, t.n) {
+        return None;
     }
-    let book = &bytes[t.book as usize..t.points as usize];
-    let points = &bytes[t.points as usize..end];
-    if !book_stands(book) || !points_stand(points, t.n) || !ledgers_stand(bytes, &t) {
-        return Err(Refusal::BadSheet);
-    }
-    Ok(Sheet {
+    Some(Sheet {
         book,
         points,
-        ledger: &bytes[lines_place(&t)..t.book as usize],
+        ledger,
         n: t.n,
         floor: t.floor,
     })
 }
 
-fn verdict_of(code: u16, points: u16) -> Verdict
-    ensures { result ≡ verdict_of code points }
+pub fn read_sheet(bytes: &[u8]) -> Result<Sheet<'_>, Refusal>
+    ensures { contents result ≡ read_sheet bytes.now }
 {
-    match code {
-        0 => Verdict::Open,
-        1 => Verdict::Hit(points),
-        2 => Verdict::RuledOut,
-        _ => Verdict::GivenUp,
-    }
-}
-
-impl Sheet<'_> {
-    // How many lines the book has.
-    pub fn book_len(&self) -> usize
-        ensures { result ≡ length self.now.book.now / 8 }
-    {
-        self.book.len() / 8
-    }
-
-    pub fn book_line(&self, i: usize) -> Option<GuessLine>
-        ensures { result ≡ if_below i (length self.now.book.now / 8) (line_in self.now.book.now i) }
-    {
-        if i >= self.book_len() {
-            return None;
-        }
-        let at = 8 * i;
-        Some(GuessLine {
-            k: read16(self.book, at),
-            doublings: read16(self.book, at + 2),
-            verdict: verdict_of(read16(self.book, at + 4), read16(self.book, at + 6)),
-        })
-    }
-
-    // How many points are chosen.
-    pub fn point_count(&self) -> usize
-        ensures { result ≡ length self.now.points.now / 2 }
-    {
-        self.points.len() / 2
-    }
-
-    pub fn point(&self, i: usize) -> Option<PointNumber>
-        ensures { result ≡ if_below i (length self.now.points.now / 2) (point_in self.now.points.now i) }
-    {
-        if i < self.point_count() {
-            Some(PointNumber(read16(self.points, 2 * i)))
-        } else {
-            None
-        }
-    }
-
-    // How many lines the last ledger has.
-    pub fn ledger_len(&self) -> usize
-        ensures { result ≡ length self.now.ledger.now / 2 }
-    {
-        self.ledger.len() / 2
-    }
-
-    pub fn ledger_line(&self, i: usize) -> Option<RangeNumber>
-        ensures { result ≡ if_below i (length self.now.ledger.now / 2) (range_in self.now.ledger.now i) }
-    {
-        if i < self.ledger_len() {
-            Some(RangeNumber(read16(self.ledger, 2 * i)))
-        } else {
-            None
-        }
-    }
-
-    // How many points there are.
-    pub fn n(&self) -> u16
-        ensures { result ≡ self.now.n }
-    {
-        self.n
-    }
-
-    // The guess of the last ledger, 0 without one.
-    pub fn floor(&self) -> u16
-        ensures { result ≡ self.now.floor }
-    {
-        self.floor
-    }
+    parts(bytes).ok_or(Refusal::BadSheet)
 }

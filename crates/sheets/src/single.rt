@@ -21,17 +21,16 @@ pub fn write_sheet(
     ensures back { SingleReadsBack result k lines.now (book_lines book.now) marks.now sheet.new }
 {
     let mut writer = SheetWriter::begin();
-    match writer.add(sheet, k, lines) {
-        Err(e) => {
-            let _torn = writer.tear_up(sheet);
+    if let Err(e) = writer.add(sheet, k, lines) {
+        let _torn = writer.tear_up(sheet);
+        return Err(e);
+    }
+    // not by map_err, since of a buffer that its closure writes nothing is known where it is not called
+    match writer.close(sheet, book, k, marks) {
+        Ok(n) => Ok(n),
+        Err((back, e)) => {
+            let _torn = back.tear_up(sheet);
             Err(e)
         }
-        Ok(()) => match writer.close(sheet, book, k, marks) {
-            Ok(n) => Ok(n),
-            Err((back, e)) => {
-                let _torn = back.tear_up(sheet);
-                Err(e)
-            }
-        },
     }
 }

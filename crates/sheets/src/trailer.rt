@@ -3,9 +3,9 @@ ghost use Rattle.std.specs.Prelude.{◌≡◌, ◌+◌, ◌≤◌, length};
 ghost use Rattle.sheets.specs.Bytes.{stored};
 ghost use Rattle.sheets.specs.Trailers.{trailer_bytes, trailer_at};
 
-use crate::bytes::{read16, read32, store16, store32};
+use crate::bytes::{read, store};
 
-// The place that says that there is no ledger.
+// The place by which the format says that there is no ledger; the writer's state keeps it, a plain number by the project's scope.
 pub const NO_LEDGER: u32 = 0xffff_ffff;
 
 #[derive(Clone, Copy)]
@@ -21,11 +21,11 @@ pub(crate) fn store_trailer(sheet: &mut [u8], at: usize, t: Trailer)
     requires { at + 16 ≤ length sheet.old }
     ensures { sheet.new ≡ stored sheet.old at (trailer_bytes t) }
 {
-    store32(sheet, at, t.book);
-    store32(sheet, at + 4, t.points);
-    store32(sheet, at + 8, t.ledger);
-    store16(sheet, at + 12, t.n);
-    store16(sheet, at + 14, t.floor);
+    store(sheet, at, &t.book.to_le_bytes());
+    store(sheet, at + 4, &t.points.to_le_bytes());
+    store(sheet, at + 8, &t.ledger.to_le_bytes());
+    store(sheet, at + 12, &t.n.to_le_bytes());
+    store(sheet, at + 14, &t.floor.to_le_bytes());
 }
 
 pub(crate) fn read_trailer(sheet: &[u8], at: usize) -> Trailer
@@ -33,10 +33,10 @@ pub(crate) fn read_trailer(sheet: &[u8], at: usize) -> Trailer
     ensures { result ≡ trailer_at sheet.now at }
 {
     Trailer {
-        book: read32(sheet, at),
-        points: read32(sheet, at + 4),
-        ledger: read32(sheet, at + 8),
-        n: read16(sheet, at + 12),
-        floor: read16(sheet, at + 14),
+        book: u32::from_le_bytes(read(sheet, at)),
+        points: u32::from_le_bytes(read(sheet, at + 4)),
+        ledger: u32::from_le_bytes(read(sheet, at + 8)),
+        n: u16::from_le_bytes(read(sheet, at + 12)),
+        floor: u16::from_le_bytes(read(sheet, at + 14)),
     }
 }

@@ -64,7 +64,10 @@ impl SheetWriter {
 
     // Lays a section behind what is written.
     fn lay_section(&self, sheet: &mut [u8], k: u16, lines: &[RangeNumber])
-        requires { (self.now.len + section_length lines.now ≤ length sheet.old) × ((length lines.now ≤ 16383) × ((0 < k) × (k ≤ 4096))) }
+        requires room { self.now.len + section_length lines.now ≤ length sheet.old }
+        requires few { length lines.now ≤ 16383 }
+        requires some { 0 < k }
+        requires most { k ≤ 4096 }
         ensures bytes { sheet.new ≡ put sheet.old self.now.len (section_bytes k lines.now) }
         ensures written { AddKeeps (Ok tt) self.now sheet.old k lines.now (next_writer self.now k lines.now) sheet.new }
     {
@@ -105,7 +108,8 @@ impl SheetWriter {
     }
 
     fn end_trailer(&self, book: &Book, floor: u16, marks: &[u8]) -> Trailer
-        requires { (self.now.len + end_length (book_lines book.now) marks.now ≤ 2147483648) × (length marks.now ≤ 4096) }
+        requires short { self.now.len + end_length (book_lines book.now) marks.now ≤ 2147483648 }
+        requires few { length marks.now ≤ 4096 }
         ensures { result ≡ end_trailer self.now (book_lines book.now) floor marks.now }
     {
         Trailer {
@@ -119,7 +123,10 @@ impl SheetWriter {
 
     // Lays the book, the chosen points and the trailer behind the ledgers.
     fn lay_end(&self, sheet: &mut [u8], book: &Book, floor: u16, marks: &[u8])
-        requires { (self.now.len + end_length (book_lines book.now) marks.now ≤ length sheet.old) × ((self.now.len + end_length (book_lines book.now) marks.now ≤ 2147483648) × ((length marks.now ≤ 4096) × (floor ≡ self.now.guess))) }
+        requires room { self.now.len + end_length (book_lines book.now) marks.now ≤ length sheet.old }
+        requires short { self.now.len + end_length (book_lines book.now) marks.now ≤ 2147483648 }
+        requires few { length marks.now ≤ 4096 }
+        requires last { floor ≡ self.now.guess }
         ensures bytes { sheet.new ≡ put sheet.old self.now.len (end_bytes self.now (book_lines book.now) floor marks.now) }
         ensures back { AllReadBack (self.now.len + end_length (book_lines book.now) marks.now) self.now sheet.old (book_lines book.now) floor marks.now sheet.new }
     {

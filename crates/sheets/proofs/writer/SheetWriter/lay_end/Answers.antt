@@ -18,5 +18,5 @@ returns c =
     record {
       bytes = laid;
       back = subst (AllReadBack (w.len + end_length ls ms) w s ls c.args.floor ms) (sym laid)
-          (all_back ls ms s c.store_book.ensures.fit (omega arith) (omega arith) w c.args.floor c.requires.1.1.1 (omega arith));
+          (all_back ls ms s c.store_book.ensures.fit (omega arith) (omega arith) w c.args.floor c.requires.last (omega arith));
     }
