@@ -5,20 +5,22 @@ mod paper;
 mod show;
 mod web;
 
-use crate::show::{refused, show_marks};
+use crate::show::show_marks;
 use greedy::greedy::Greedy;
 use nets::finder::Finder;
 use nets::lightest::Lightest;
 use nets::sweep::Sweep;
 use nets::verifier::{Lowest, Verifier};
 use ranges::number::{PointNumber, RangeNumber};
-use ranges::refusal::{Refusal, answer_number};
+use ranges::refusal::answer_number;
 use ranges::space::Space;
+use runs::buffers::Buffers;
 use runs::run::Run;
 use shapes::box_range::{BoxPoint, BoxRange};
-use shapes::boxes::{Boxes, check_boxes};
+use shapes::boxes::Boxes;
+use shapes::lists::check_lists;
 use shapes::strip_range::{StripPoint, StripRange};
-use shapes::strips::{Strips, check_strips};
+use shapes::strips::Strips;
 
 const WEB_POINTS: [StripPoint; 4] = [
     StripPoint { x: 0 },
@@ -73,15 +75,15 @@ fn run(rt: &HostRuntime) -> anyhow::Result<()> {
 
 // The strips of a web: guess 1 misses a range, guess 2 hits them all.
 fn web_job(rt: &HostRuntime) -> anyhow::Result<()> {
-    let checked = answer_number(&check_strips(&WEB_POINTS, &WEB_STRIPS));
+    let checked = answer_number(&check_lists(&WEB_POINTS, &WEB_STRIPS));
     println!(rt; "strips: check {checked}")?;
     let space = Strips::new(&WEB_POINTS, &WEB_STRIPS);
     show_counts(rt, &space)?;
     for k in [1, 2] {
         let mut marks = [0u8; 4];
-        let found = Sweep.find(&space, k, &ONES, &mut marks, &mut []);
-        show_net(rt, "the sweep", k, found, &marks)?;
-        show_verdict(rt, "lowest", Lowest.judge(&space, &marks, &ONES))?;
+        let count = Sweep.find(&space, k, &ONES, &mut marks, &mut [])?;
+        show_net(rt, "the sweep", k, count, &marks)?;
+        show_verdict(rt, "lowest", Lowest.judge(&space, &marks, &ONES)?)?;
     }
     Ok(())
 }
@@ -90,25 +92,33 @@ fn web_job(rt: &HostRuntime) -> anyhow::Result<()> {
 fn web_run(rt: &HostRuntime) -> anyhow::Result<()> {
     let space = Strips::new(&WEB_POINTS, &WEB_STRIPS);
     let mut run = Run::new();
-    let mut b = web::fresh_buffers();
-    web::play_job(rt, &space, &mut run, &mut b)?;
+    // the sweep needs no scratch
+    let mut marks = [7u8; 4];
+    let mut ledger = [RangeNumber(9); 12];
+    let mut buffers = Buffers {
+        weights: &mut [7; 4],
+        marks: &mut marks,
+        ledger: &mut ledger,
+        scratch: &mut [],
+    };
+    web::play_job(rt, &space, &mut run, &mut buffers)?;
     let book = run.book();
-    paper::show_listing(rt, &book, run.floor(), &b.marks)?;
-    paper::show_sheet(rt, &b.ledger[0..9], &book, &b.marks)?;
-    paper::tear_up(rt, &b.ledger[0..9])?;
+    paper::show_listing(rt, &book, run.floor(), &marks)?;
+    paper::show_sheet(rt, &ledger[..9], &book, &marks)?;
+    paper::tear_up(rt, &ledger[..9])?;
     web::perform_list(rt, &space)
 }
 
 // Boxes: what a box holds, and what the lowest verifier says of some marks.
 fn box_sheet(rt: &HostRuntime) -> anyhow::Result<()> {
-    let checked = answer_number(&check_boxes(&SHEET_POINTS, &SHEET_BOXES));
+    let checked = answer_number(&check_lists(&SHEET_POINTS, &SHEET_BOXES));
     println!(rt; "boxes: check {checked}")?;
     let space = Boxes::new(&SHEET_POINTS, &SHEET_BOXES);
     show_counts(rt, &space)?;
     let corner = space.holds(RangeNumber(0), PointNumber(0));
     println!(rt; "box 0 holds point 0: {corner}")?;
     for marks in [[0, 0, 1, 0], [1, 1, 0, 0], [1, 1, 0, 1]] {
-        show_verdict(rt, "lowest", Lowest.judge(&space, &marks, &ONES))?;
+        show_verdict(rt, "lowest", Lowest.judge(&space, &marks, &ONES)?)?;
     }
     Ok(())
 }
@@ -118,18 +128,16 @@ fn box_nets(rt: &HostRuntime) -> anyhow::Result<()> {
     let space = Boxes::new(&SHEET_POINTS, &SHEET_BOXES);
     for k in [1, 2, 4] {
         let mut marks = [0u8; 4];
-        let found = Greedy.find(&space, k, &ONES, &mut marks, &mut [0; 3]);
-        show_net(rt, "greedy", k, found, &marks)?;
-        show_verdict(rt, "lowest", Lowest.judge(&space, &marks, &ONES))?;
-        show_verdict(rt, "lightest", Lightest.judge(&space, &marks, &ONES))?;
+        let count = Greedy.find(&space, k, &ONES, &mut marks, &mut [0; 3])?;
+        show_net(rt, "greedy", k, count, &marks)?;
+        show_verdict(rt, "lowest", Lowest.judge(&space, &marks, &ONES)?)?;
+        show_verdict(rt, "lightest", Lightest.judge(&space, &marks, &ONES)?)?;
     }
     Ok(())
 }
 
 fn show_counts<S: Space>(rt: &HostRuntime, space: &S) -> anyhow::Result<()> {
-    let n = space.points();
-    let m = space.ranges();
-    println!(rt; "points {n} ranges {m}")?;
+    println!(rt; "points {} ranges {}", space.points(), space.ranges())?;
     Ok(())
 }
 
@@ -138,28 +146,17 @@ fn show_net(
     rt: &HostRuntime,
     who: &str,
     k: u16,
-    found: Result<u16, Refusal>,
+    count: u16,
     marks: &[u8; 4],
 ) -> anyhow::Result<()> {
-    match found {
-        Ok(count) => println!(rt; "guess {k}: {who} marks {count}")?,
-        Err(e) => return Err(refused(e)),
-    }
+    println!(rt; "guess {k}: {who} marks {count}")?;
     show_marks(rt, marks)
 }
 
-fn show_verdict(
-    rt: &HostRuntime,
-    who: &str,
-    judged: Result<Option<RangeNumber>, Refusal>,
-) -> anyhow::Result<()> {
-    match judged {
-        Ok(Some(j)) => {
-            let j = j.0;
-            println!(rt; "{who}: range {j} is missed")?;
-        }
-        Ok(None) => println!(rt; "{who}: every range is hit")?,
-        Err(e) => return Err(refused(e)),
+fn show_verdict(rt: &HostRuntime, who: &str, missed: Option<RangeNumber>) -> anyhow::Result<()> {
+    match missed {
+        Some(j) => println!(rt; "{who}: range {j} is missed")?,
+        None => println!(rt; "{who}: every range is hit")?,
     }
     Ok(())
 }
