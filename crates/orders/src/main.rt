@@ -7,15 +7,15 @@ mod show;
 
 use crate::cases::worked_cases;
 use crate::jobs::{ORDERS, SPOTS, WEB_POINTS, WEB_STRIPS};
-use crate::show::{refused, show_sheet};
+use crate::show::show_sheet;
 use greedy::greedy::Greedy;
 use nets::lightest::Lightest;
 use nets::sweep::Sweep;
 use nets::verifier::{Lowest, Verifier};
 use placing::place::place;
 use ranges::number::RangeNumber;
-use ranges::refusal::Refusal;
 use ranges::space::Space;
+use runs::buffers::Buffers;
 use shapes::boxes::Boxes;
 use shapes::strips::Strips;
 
@@ -35,33 +35,16 @@ fn run(rt: &HostRuntime) -> anyhow::Result<()> {
 // Four points need a ledger of 12 lines and a sheet of 416 bytes; the sweep needs no scratch.
 fn place_web(rt: &HostRuntime) -> anyhow::Result<()> {
     let space = Strips::new(&WEB_POINTS, &WEB_STRIPS);
-    let mut weights = [7u64; 4];
-    let mut marks = [7u8; 4];
-    let mut ledger = [RangeNumber(9); 12];
+    let mut buffers = Buffers {
+        weights: &mut [7; 4],
+        marks: &mut [7; 4],
+        ledger: &mut [RangeNumber(9); 12],
+        scratch: &mut [],
+    };
     let mut sheet = [9u8; 416];
-    let placed = place(
-        &space,
-        &Sweep,
-        &Lowest,
-        &mut weights,
-        &mut marks,
-        &mut ledger,
-        &mut [],
-        &mut sheet,
-    );
-    show_answer(rt, "web, sweep and lowest", &placed)?;
-    match placed {
-        Ok((_, _, _, len)) => show_sheet(
-            rt,
-            &space,
-            len,
-            &marks,
-            &sheet,
-            &mut ledger,
-            &mut weights,
-        ),
-        Err(e) => Err(refused(e)),
-    }
+    let placed = place(&space, &Sweep, &Lowest, &mut buffers, &mut sheet)?;
+    show_answer(rt, "web, sweep and lowest", placed)?;
+    show_sheet(rt, &space, placed.3, &sheet, &mut buffers)
 }
 
 // Thirty orders on 24 spots: a ledger of 72 lines, 30 bytes of scratch, a sheet of 896 bytes.
@@ -71,36 +54,23 @@ fn place_orders<S: Space, V: Verifier<S>>(
     space: &S,
     v: &V,
 ) -> anyhow::Result<()> {
-    let mut weights = [7u64; 24];
-    let mut marks = [7u8; 24];
-    let mut ledger = [RangeNumber(9); 72];
+    let mut buffers = Buffers {
+        weights: &mut [7; 24],
+        marks: &mut [7; 24],
+        ledger: &mut [RangeNumber(9); 72],
+        scratch: &mut [9; 30],
+    };
     let mut sheet = [9u8; 896];
-    let placed = place(
-        space,
-        &Greedy,
-        v,
-        &mut weights,
-        &mut marks,
-        &mut ledger,
-        &mut [9; 30],
-        &mut sheet,
-    );
-    show_answer(rt, name, &placed)?;
-    match placed {
-        Ok((_, _, _, len)) => show_sheet(rt, space, len, &marks, &sheet, &mut ledger, &mut weights),
-        Err(e) => Err(refused(e)),
-    }
+    let placed = place(space, &Greedy, v, &mut buffers, &mut sheet)?;
+    show_answer(rt, name, placed)?;
+    show_sheet(rt, space, placed.3, &sheet, &mut buffers)
 }
 
 fn show_answer(
     rt: &HostRuntime,
     name: &str,
-    placed: &Result<(u16, u16, u32, usize), Refusal>,
+    (points, floor, rounds, len): (u16, u16, u32, usize),
 ) -> anyhow::Result<()> {
-    if let Ok((points, floor, rounds, len)) = placed {
-        println!(rt;
-            "{name}: points {points}, floor {floor}, rounds {rounds}, sheet of {len} bytes"
-        )?;
-    }
+    println!(rt; "{name}: points {points}, floor {floor}, rounds {rounds}, sheet of {len} bytes")?;
     Ok(())
 }

@@ -21,11 +21,13 @@ pub struct Desk {
     pub scratch: [u8; 2],
 }
 
-pub fn fresh_desk() -> Desk {
-    Desk {
-        weights: [7; 3],
-        marks: [7; 3],
-        ledger: [RangeNumber(9); 7],
-        scratch: [9; 2],
+impl Desk {
+    pub fn new() -> Desk {
+        Desk {
+            weights: [7; 3],
+            marks: [7; 3],
+            ledger: [RangeNumber(9); 7],
+            scratch: [9; 2],
+        }
     }
 }

@@ -2,13 +2,13 @@
 #![tactic(auto)]
 
 mod desk;
+mod session;
 mod steps;
 
-use crate::desk::{Desk, fresh_desk};
-use crate::steps::{Step, act, static_steps};
-use ledgers::replay::{Replayed, replay};
+use crate::session::Session;
+use crate::steps::{all_steps, say};
+use ledgers::replay::{ReplayError, replay};
 use ranges::number::RangeNumber;
-use runs::run::Run;
 use shapes::strips::Strips;
 
 fn main(rt: HostRuntime) -> anyhow::Result<()> {
@@ -16,72 +16,75 @@ fn main(rt: HostRuntime) -> anyhow::Result<()> {
 }
 
 fn run(rt: &HostRuntime) -> anyhow::Result<()> {
-    let mut run = Run::new();
-    let mut desk = fresh_desk();
-    for step in static_steps() {
-        let number = act(&mut run, &mut desk, &step.call);
-        let what = step.what;
-        println!(rt; "{what}: {number}")?;
-    }
+    all_steps(rt, &mut Session::new())?;
     many_opens(rt)?;
     replays(rt)
 }
 
 // The book takes 24 guesses, and not one more.
 fn many_opens(rt: &HostRuntime) -> anyhow::Result<()> {
-    let mut run = Run::new();
-    let mut desk = fresh_desk();
-    let mut last = act(&mut run, &mut desk, &Step::Begin);
+    let mut session = Session::new();
+    let mut last = session.begin();
     for _ in 0..24 {
-        last = act(&mut run, &mut desk, &Step::Open(1, 3, 7));
-        let _ = run.give_up();
+        last = session.open(1, 3, 7);
+        let _ = session.run.give_up();
     }
-    println!(rt; "open 24: {last}")?;
-    last = act(&mut run, &mut desk, &Step::Open(1, 3, 7));
-    println!(rt; "open 25: {last}")?;
-    Ok(())
+    say(rt, "open 24", last)?;
+    say(rt, "open 25", session.open(1, 3, 7))
 }
 
 // Replay by lengths, guess and lines; the ledger of guess 1 has 7 lines here.
 fn replays(rt: &HostRuntime) -> anyhow::Result<()> {
-    say_replay(rt, "good ledger", 1, &[1, 0, 1, 0, 1, 0, 1], 3)?;
-    say_replay(rt, "heavy line", 1, &[0, 1, 0, 1, 0, 1, 0], 3)?;
-    say_replay(rt, "no such range", 1, &[1, 0, 2, 0, 1, 0, 1], 3)?;
-    say_replay(rt, "six lines", 1, &[1, 0, 1, 0, 1, 0], 3)?;
-    say_replay(rt, "eight lines", 1, &[1, 0, 1, 0, 1, 0, 1, 0], 3)?;
-    say_replay(rt, "guess 0", 0, &[], 3)?;
-    say_replay(rt, "guess 4", 4, &[], 3)?;
-    say_replay(rt, "short weights, guess 0", 0, &[], 2)
+    say_replay(
+        rt,
+        "good ledger",
+        1,
+        [1, 0, 1, 0, 1, 0, 1].map(RangeNumber),
+        3,
+    )?;
+    say_replay(
+        rt,
+        "heavy line",
+        1,
+        [0, 1, 0, 1, 0, 1, 0].map(RangeNumber),
+        3,
+    )?;
+    say_replay(
+        rt,
+        "no such range",
+        1,
+        [1, 0, 2, 0, 1, 0, 1].map(RangeNumber),
+        3,
+    )?;
+    say_replay(rt, "six lines", 1, [1, 0, 1, 0, 1, 0].map(RangeNumber), 3)?;
+    say_replay(
+        rt,
+        "eight lines",
+        1,
+        [1, 0, 1, 0, 1, 0, 1, 0].map(RangeNumber),
+        3,
+    )?;
+    say_replay(rt, "guess 0", 0, [], 3)?;
+    say_replay(rt, "guess 4", 4, [], 3)?;
+    say_replay(rt, "short weights, guess 0", 0, [], 2)
 }
 
-// The first eight lines of a list.
-fn ledger_of(lines: &[u16]) -> [RangeNumber; 8] {
-    let mut ledger = [RangeNumber(0); 8];
-    for i in 0..8 {
-        if i < lines.len() {
-            ledger[i] = RangeNumber(lines[i]);
-        }
-    }
-    ledger
-}
-
-fn say_replay(
+fn say_replay<const N: usize>(
     rt: &HostRuntime,
     what: &str,
     k: u16,
-    lines: &[u16],
+    ledger: [RangeNumber; N],
     weights: usize,
 ) -> anyhow::Result<()> {
-    let ledger = ledger_of(lines);
     let space = Strips::new(&desk::POINTS, &desk::STRIPS);
     let mut room = [5u64; 3];
-    let held = lines.len().min(8);
-    match replay(&space, k, &ledger[0..held], &mut room[0..weights.min(3)]) {
-        Ok(Replayed::Accepted) => println!(rt; "replay, {what}: accepted")?,
-        Ok(Replayed::BadLine(i)) => println!(rt; "replay, {what}: line {i}, weights {room:?}")?,
-        Err(e) => {
-            let number = e.number();
-            println!(rt; "replay, {what}: {number}, weights {room:?}")?;
+    match replay(&space, k, &ledger, &mut room[0..weights.min(3)]) {
+        Ok(()) => println!(rt; "replay, {what}: accepted")?,
+        Err(ReplayError::BadLine(i)) => {
+            println!(rt; "replay, {what}: line {i}, weights {room:?}")?;
+        }
+        Err(ReplayError::Refused(e)) => {
+            println!(rt; "replay, {what}: {}, weights {room:?}", e.number())?;
         }
     }
     Ok(())

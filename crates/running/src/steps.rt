@@ -1,237 +1,82 @@
-// The calls of the table, by what each is given.
-use crate::desk::{BARE, Desk, POINTS, STRIPS};
-use greedy::greedy::Greedy;
-use nets::verifier::Lowest;
-use ranges::number::RangeNumber;
-use ranges::refusal::answer_number;
-use runs::run::Run;
-use shapes::strips::Strips;
+// The calls of one run, one after the other, each with the number that it answers.
+use crate::session::{ENOUGH, Lent, Session};
+use ranges::refusal::{Refusal, answer_number};
 
-// One call: an open by guess and lengths of weights and ledger, a round by lengths of marks, ledger and scratch.
-#[derive(Clone, Copy)]
-pub enum Step {
-    Begin,
-    BeginBare,
-    Open(u16, usize, usize),
-    OpenOther(u16),
-    Round(usize, usize, usize),
-    RoundOther,
-    Spoiled,
-    GiveUp,
+pub fn say(rt: &HostRuntime, what: &str, answer: Result<(), Refusal>) -> anyhow::Result<()> {
+    println!(rt; "{what}: {}", answer_number(&answer))?;
+    Ok(())
 }
 
-#[derive(Clone, Copy)]
-pub struct Named {
-    pub what: &'static str,
-    pub call: Step,
-}
-
-static STEPS: [Named; 34] = [
-    Named {
-        what: "give up, blank",
-        call: Step::GiveUp,
-    },
-    Named {
-        what: "open, blank",
-        call: Step::Open(1, 2, 0),
-    },
-    Named {
-        what: "round, blank",
-        call: Step::Round(2, 0, 0),
-    },
-    Named {
-        what: "begin, a bare range",
-        call: Step::BeginBare,
-    },
-    Named {
-        what: "begin",
-        call: Step::Begin,
-    },
-    Named {
-        what: "begin again, a bare range",
-        call: Step::BeginBare,
-    },
-    Named {
-        what: "begin again",
-        call: Step::Begin,
-    },
-    Named {
-        what: "give up, none open",
-        call: Step::GiveUp,
-    },
-    Named {
-        what: "round, none open",
-        call: Step::Round(3, 0, 0),
-    },
-    Named {
-        what: "round, short marks, none open",
-        call: Step::Round(2, 0, 0),
-    },
-    Named {
-        what: "open, other space, guess 0",
-        call: Step::OpenOther(0),
-    },
-    Named {
-        what: "open, short weights, guess 0",
-        call: Step::Open(0, 2, 7),
-    },
-    Named {
-        what: "open, guess 0, short ledger",
-        call: Step::Open(0, 3, 0),
-    },
-    Named {
-        what: "open, guess 4",
-        call: Step::Open(4, 3, 7),
-    },
-    Named {
-        what: "open, short ledger",
-        call: Step::Open(1, 3, 6),
-    },
-    Named {
-        what: "open guess 1",
-        call: Step::Open(1, 3, 7),
-    },
-    Named {
-        what: "open, one is open, guess 0",
-        call: Step::Open(0, 3, 7),
-    },
-    Named {
-        what: "open, short weights, one is open",
-        call: Step::Open(2, 2, 7),
-    },
-    Named {
-        what: "round, other space",
-        call: Step::RoundOther,
-    },
-    Named {
-        what: "round, short marks, short ledger",
-        call: Step::Round(2, 6, 2),
-    },
-    Named {
-        what: "round, short ledger, short scratch",
-        call: Step::Round(3, 6, 1),
-    },
-    Named {
-        what: "round, short scratch",
-        call: Step::Round(3, 7, 1),
-    },
-    Named {
-        what: "round, spoiled weights",
-        call: Step::Spoiled,
-    },
-    Named {
-        what: "round 1",
-        call: Step::Round(3, 7, 2),
-    },
-    Named {
-        what: "round 2",
-        call: Step::Round(3, 7, 2),
-    },
-    Named {
-        what: "round 3",
-        call: Step::Round(3, 7, 2),
-    },
-    Named {
-        what: "round 4",
-        call: Step::Round(3, 7, 2),
-    },
-    Named {
-        what: "round 5",
-        call: Step::Round(3, 7, 2),
-    },
-    Named {
-        what: "round 6",
-        call: Step::Round(3, 7, 2),
-    },
-    Named {
-        what: "round 7",
-        call: Step::Round(3, 7, 2),
-    },
-    Named {
-        what: "round 8, ruled out before",
-        call: Step::Round(3, 7, 2),
-    },
-    Named {
-        what: "open, not above the floor, short ledger",
-        call: Step::Open(1, 3, 0),
-    },
-    Named {
-        what: "open guess 2",
-        call: Step::Open(2, 3, 6),
-    },
-    Named {
-        what: "give up",
-        call: Step::GiveUp,
-    },
-];
-
-pub fn static_steps() -> &'static [Named] {
-    &STEPS
-}
-
-// Makes the call and answers its number; a round takes greedy and the lowest verifier.
-pub fn act(run: &mut Run, desk: &mut Desk, step: &Step) -> u8 {
-    let space = Strips::new(&POINTS, &STRIPS);
-    let other = Strips::new(&POINTS[0..2], &STRIPS);
-    match *step {
-        Step::Begin => answer_number(&run.begin(&space)),
-        Step::BeginBare => answer_number(&run.begin(&Strips::new(&POINTS, &BARE))),
-        Step::Open(k, weights, ledger) => open_guess(run, &space, desk, k, weights, ledger),
-        Step::OpenOther(k) => answer_number(&run.open(&other, k, &mut desk.weights, &desk.ledger)),
-        Step::Round(marks, ledger, scratch) => play(run, &space, desk, marks, ledger, scratch),
-        Step::RoundOther => play(run, &other, desk, 3, 7, 2),
-        Step::Spoiled => spoiled_round(run, &space, desk),
-        Step::GiveUp => answer_number(&run.give_up()),
+fn lent(marks: usize, ledger: usize, scratch: usize) -> Lent {
+    Lent {
+        marks,
+        ledger,
+        scratch,
     }
 }
 
-fn open_guess(
-    run: &mut Run,
-    space: &Strips<'_>,
-    desk: &mut Desk,
-    k: u16,
-    weights: usize,
-    ledger: usize,
-) -> u8 {
-    let lines: &[RangeNumber] = &desk.ledger;
-    let room: &mut [u64] = &mut desk.weights;
-    let opened = run.open(
-        space,
-        k,
-        &mut room[0..weights.min(3)],
-        &lines[0..ledger.min(7)],
-    );
-    answer_number(&opened)
+pub fn all_steps(rt: &HostRuntime, s: &mut Session) -> anyhow::Result<()> {
+    blank_and_begun(rt, s)?;
+    none_open(rt, s)?;
+    one_open(rt, s)?;
+    to_the_limit(rt, s)?;
+    above_the_floor(rt, s)
 }
 
-fn play(
-    run: &mut Run,
-    space: &Strips<'_>,
-    desk: &mut Desk,
-    marks: usize,
-    ledger: usize,
-    scratch: usize,
-) -> u8 {
-    let net: &mut [u8] = &mut desk.marks;
-    let lines: &mut [RangeNumber] = &mut desk.ledger;
-    let bytes: &mut [u8] = &mut desk.scratch;
-    let played = run.round(
-        space,
-        &Greedy,
-        &Lowest,
-        &mut desk.weights,
-        &mut net[0..marks.min(3)],
-        &mut lines[0..ledger.min(7)],
-        &mut bytes[0..scratch.min(2)],
-    );
-    answer_number(&played)
+fn blank_and_begun(rt: &HostRuntime, s: &mut Session) -> anyhow::Result<()> {
+    say(rt, "give up, blank", s.run.give_up())?;
+    say(rt, "open, blank", s.open(1, 2, 0))?;
+    say(rt, "round, blank", s.round(lent(2, 0, 0)))?;
+    say(rt, "begin, a bare range", s.begin_bare())?;
+    say(rt, "begin", s.begin())?;
+    say(rt, "begin again, a bare range", s.begin_bare())?;
+    say(rt, "begin again", s.begin())
 }
 
-// A round on weights that someone changed, which then are as before.
-fn spoiled_round(run: &mut Run, space: &Strips<'_>, desk: &mut Desk) -> u8 {
-    let kept = desk.weights[0];
-    desk.weights[0] = kept.wrapping_add(1);
-    let number = play(run, space, desk, 3, 7, 2);
-    desk.weights[0] = kept;
-    number
+fn none_open(rt: &HostRuntime, s: &mut Session) -> anyhow::Result<()> {
+    say(rt, "give up, none open", s.run.give_up())?;
+    say(rt, "round, none open", s.round(lent(3, 0, 0)))?;
+    say(rt, "round, short marks, none open", s.round(lent(2, 0, 0)))?;
+    say(rt, "open, other space, guess 0", s.open_other(0))?;
+    say(rt, "open, short weights, guess 0", s.open(0, 2, 7))?;
+    say(rt, "open, guess 0, short ledger", s.open(0, 3, 0))?;
+    say(rt, "open, guess 4", s.open(4, 3, 7))?;
+    say(rt, "open, short ledger", s.open(1, 3, 6))?;
+    say(rt, "open guess 1", s.open(1, 3, 7))
+}
+
+fn one_open(rt: &HostRuntime, s: &mut Session) -> anyhow::Result<()> {
+    say(rt, "open, one is open, guess 0", s.open(0, 3, 7))?;
+    say(rt, "open, short weights, one is open", s.open(2, 2, 7))?;
+    say(rt, "round, other space", s.round_other())?;
+    say(
+        rt,
+        "round, short marks, short ledger",
+        s.round(lent(2, 6, 2)),
+    )?;
+    say(
+        rt,
+        "round, short ledger, short scratch",
+        s.round(lent(3, 6, 1)),
+    )?;
+    say(rt, "round, short scratch", s.round(lent(3, 7, 1)))?;
+    say(rt, "round, spoiled weights", s.spoiled_round())
+}
+
+// Guess 1 is ruled out by its seventh round.
+fn to_the_limit(rt: &HostRuntime, s: &mut Session) -> anyhow::Result<()> {
+    for i in 1..=7 {
+        println!(rt; "round {i}: {}", answer_number(&s.round(ENOUGH)))?;
+    }
+    say(rt, "round 8, ruled out before", s.round(ENOUGH))
+}
+
+fn above_the_floor(rt: &HostRuntime, s: &mut Session) -> anyhow::Result<()> {
+    say(
+        rt,
+        "open, not above the floor, short ledger",
+        s.open(1, 3, 0),
+    )?;
+    say(rt, "open guess 2", s.open(2, 3, 6))?;
+    say(rt, "give up", s.run.give_up())
 }

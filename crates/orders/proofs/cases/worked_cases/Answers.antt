@@ -1,11 +1,11 @@
-use Rattle.std.proofs.Common.{sym, refl, ◌∙◌}
+use Rattle.std.proofs.Common.{sym, refl, ◌∙◌, rules}
 use Rattle.orders.proofs.cases.worked_cases.Goals as goal
 
 pub returns : goal.returns
 returns c = record {
-  count = refl;
+  count = search rules;
   cases = record {
-    limits = c.limit_cases.ensures.worked;
+    limits = c.worked_limits.ensures.worked;
     corner = refl;
     first_sweep = refl;
     first_miss = (refl, refl);
