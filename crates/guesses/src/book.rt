@@ -109,7 +109,7 @@ impl Book {
         true
     }
 
-    // Puts the last line anew; an empty book stays as it is.
+    // Puts the last line anew; an empty book stays as it is. By index, since what last_mut lends leaves the places unknown.
     pub fn rewrite_last(&mut self, line: GuessLine) -> bool
         ensures rewritten { result ≡ nat_lt 0 (length (book_lines self.old)) }
         ensures value { self.new ≡ book_rewritten self.old line }

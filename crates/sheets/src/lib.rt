@@ -5,7 +5,7 @@ mod bytes;
 mod line;
 mod parts;
 pub mod reader;
-pub mod sheet;
+mod sheet;
 pub mod single;
 mod trailer;
 pub mod writer;
