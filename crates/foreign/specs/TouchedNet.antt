@@ -8,11 +8,10 @@ use Rattle.std.proofs.lemmas.List.Edits.{fill_by_more}
 use Rattle.ranges.specs.Below.{count_below, any_below}
 use Rattle.ranges.specs.Spaces.{RangeSpace}
 use Rattle.ranges.specs.Weights.{weight_at, total, share, range_weight, heavy, marked, chosen, marks_of}
-use Rattle.ranges.proofs.Marks.{marks_long, marks_bits, marks_marked, marks_chosen}
+use Rattle.ranges.proofs.Marks.{byte_bit, marks_long, marks_bits, marks_marked, marks_chosen}
 use Rattle.ranges.proofs.Searches.{any_decides, any_found, any_absent}
 use Rattle.ranges.proofs.Sums.{sum_zero, count_le}
 use Rattle.nets.specs.Finders.{FinderSound}
-use Rattle.nets.specs.SweepsLemmas.{byte_is}
 use Rattle.foreign.specs.Touched.{touched_by, touched, touching_finder}
 
 -- a range that holds no point has no weight, so it is light
@@ -44,7 +43,7 @@ touching_sound S k ws ms asked is =
 pub mark_more : (t : ℕ → Bool) (ms : List ℕ) (p byte : ℕ) (b : Bool) → p < length ms → byte ≡ bool_byte b → b ≡ t p
     → ((q : ℕ) → q < p → slice_index ms q ≡ cond (t q) 1 0) → (q : ℕ) → q < p + 1 → slice_index (slice_set ms p byte) q ≡ cond (t q) 1 0
 mark_more t ms p byte b l is here before q m =
-    ap (λ x. slice_index (slice_set ms p x) q) (is ∙ byte_is b ∙ ap (λ x. cond x 1 0) here) ∙ fill_by_more (λ i. cond (t i) 1 0) ms p 0 l before q m
+    ap (λ x. slice_index (slice_set ms p x) q) (is ∙ byte_bit b ∙ ap (λ x. cond x 1 0) here) ∙ fill_by_more (λ i. cond (t i) 1 0) ms p 0 l before q m
 
 -- all marks are written and counted
 pub marks_done : (t : ℕ → Bool) (ms : List ℕ) (n p count : ℕ) → length ms ≡ n → p ≡ n → count ≡ count_below t p

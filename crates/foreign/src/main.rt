@@ -8,10 +8,9 @@ mod touching;
 use crate::highest::Highest;
 use crate::ring::Ring;
 use crate::touching::Touching;
-use anyhow::anyhow;
 use placing::place::place;
-use ranges::hit::is_marked;
-use ranges::number::{PointNumber, RangeNumber};
+use ranges::number::RangeNumber;
+use runs::buffers::Buffers;
 
 fn main(rt: HostRuntime) -> anyhow::Result<()> {
     run(&rt)
@@ -19,31 +18,24 @@ fn main(rt: HostRuntime) -> anyhow::Result<()> {
 
 // Twelve points on a circle, three in each range: a ledger of 36 lines and a sheet of 608 bytes.
 fn run(rt: &HostRuntime) -> anyhow::Result<()> {
-    let Ok(ring) = Ring::new(12, 2) else {
-        return Err(anyhow!("the ring is refused"));
-    };
+    let ring = Ring::new(12, 2)?;
     let mut marks = [0u8; 12];
-    match place(
+    let mut buffers = Buffers {
+        weights: &mut [0; 12],
+        marks: &mut marks,
+        ledger: &mut [RangeNumber(0); 36],
+        scratch: &mut [],
+    };
+    let (points, floor, rounds, len) = place(
         &ring,
         &Touching,
         &Highest,
-        &mut [0; 12],
-        &mut marks,
-        &mut [RangeNumber(0); 36],
-        &mut [],
+        &mut buffers,
         &mut [0; 608],
-    ) {
-        Ok((points, floor, rounds, len)) => {
-            println!(rt; "points {points}, floor {floor}, rounds {rounds}, sheet of {len} bytes")?;
-            show_marks(rt, &marks)
-        }
-        Err(_) => Err(anyhow!("place refuses the job")),
-    }
-}
-
-fn show_marks(rt: &HostRuntime, marks: &[u8]) -> anyhow::Result<()> {
-    for p in 0..12 {
-        if is_marked(marks, PointNumber(p)) {
+    )?;
+    println!(rt; "points {points}, floor {floor}, rounds {rounds}, sheet of {len} bytes")?;
+    for (p, mark) in marks.iter().enumerate() {
+        if *mark == 1 {
             println!(rt; "at {p}")?;
         }
     }

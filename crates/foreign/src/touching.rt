@@ -1,13 +1,13 @@
-ghost use Rattle.std.specs.Prelude.{◌≡◌, ◌^◌, ◌≤◌, length};
-ghost use Rattle.ranges.specs.Weights.{total, chosen, marks_of};
-ghost use Rattle.foreign.specs.Touched.{touched_by, touched, touching_finder};
+ghost use Rattle.std.specs.Prelude.{◌≡◌, length};
+ghost use Rattle.ranges.specs.Weights.{chosen, marks_of};
+ghost use Rattle.foreign.specs.Touched.{touched, touching_finder};
 ghost use Rattle.foreign.specs.TouchedNet.{touching_sound};
 
 use nets::finder::{Finder, check_find};
 use ranges::number::{PointNumber, RangeNumber};
 use ranges::refusal::Refusal;
 use ranges::space::Space;
-use ranges::weight::{is_heavy, range_weight, total_weight};
+use ranges::weight::Weights;
 
 // It needs no scratch.
 const NO_SCRATCH: usize = 0;
@@ -37,53 +37,32 @@ impl<S: Space> Finder<S> for Touching {
         marks: &mut [u8],
         scratch: &mut [u8],
     ) -> Result<u16, Refusal> {
-        check_find(s, k, weights, marks.len(), scratch.len(), NO_SCRATCH)?;
-        Ok(mark_touched(s, k, weights, marks))
+        let weights = check_find(s, k, weights, marks.len(), scratch.len(), NO_SCRATCH)?;
+        Ok(mark_touched(&weights, k, marks))
     }
 }
 
 // Marks the points that lie in a heavy range, and answers how many.
-fn mark_touched<S: Space>(s: &S, k: u16, weights: &[u64], marks: &mut [u8]) -> u16
-    requires wide { length marks.old ≡ (S.Space.meaning s.now).points }
-    requires small { total weights.now ≤ 2 ^ 49 }
-    ensures marks { marks.new ≡ marks_of (touched (S.Space.meaning s.now) k weights.now) (S.Space.meaning s.now).points }
+fn mark_touched<S: Space>(weights: &Weights<'_, S>, k: u16, marks: &mut [u8]) -> u16
+    requires { length marks.old ≡ (S.Space.meaning weights.now.space.now).points }
+    ensures marks { marks.new ≡ marks_of (touched (S.Space.meaning weights.now.space.now) k weights.now.each.now) (S.Space.meaning weights.now.space.now).points }
     ensures count { result ≡ chosen marks.new }
 {
     let mut count: u16 = 0;
-    for p in 0..s.points() {
-        let touched = is_touched(s, k, weights, PointNumber(p));
-        marks[p as usize] = u8::from(touched);
+    for (p, mark) in marks.iter_mut().enumerate() {
+        let touched = is_touched(weights, k, PointNumber(p as u16));
+        *mark = u8::from(touched);
         count += u16::from(touched);
     }
     count
 }
 
 // Whether a heavy range holds point p.
-fn is_touched<S: Space>(s: &S, k: u16, weights: &[u64], p: PointNumber) -> bool
-    requires small { total weights.now ≤ 2 ^ 49 }
-    ensures { result ≡ touched (S.Space.meaning s.now) k weights.now p.0 }
+fn is_touched<S: Space>(weights: &Weights<'_, S>, k: u16, p: PointNumber) -> bool
+    ensures { result ≡ touched (S.Space.meaning weights.now.space.now) k weights.now.each.now p.0 }
 {
-    let whole = total_weight(weights);
-    for j in 0..s.ranges() {
-        if touches(s, k, weights, whole, p, RangeNumber(j)) {
-            return true;
-        }
-    }
-    false
-}
-
-// Whether range j is heavy and holds point p.
-fn touches<S: Space>(
-    s: &S,
-    k: u16,
-    weights: &[u64],
-    whole: u64,
-    p: PointNumber,
-    j: RangeNumber,
-) -> bool
-    requires small { total weights.now ≤ 2 ^ 49 }
-    requires whole { whole ≡ total weights.now }
-    ensures { result ≡ touched_by (S.Space.meaning s.now) k weights.now p.0 j.0 }
-{
-    s.holds(j, p) && is_heavy(k, range_weight(s, weights, j), whole)
+    let s = weights.space();
+    (0..s.ranges())
+        .map(RangeNumber)
+        .any(|j| s.holds(j, p) && weights.is_heavy(k, j))
 }

@@ -1,21 +1,29 @@
-use Rattle.std.proofs.Common.{arith}
-use Rattle.ranges.proofs.Sums.{count_le}
-use Rattle.nets.specs.SweepsLemmas.{byte_le, count_more}
+use Rattle.std.proofs.Common.{◌+◌, cond, ap, ◌∙◌, arith}
+use Rattle.ranges.proofs.Marks.{byte_bit}
+use Rattle.ranges.proofs.Sums.{count_le, sum_more}
 use Rattle.foreign.specs.Touched.{touched}
 use Rattle.foreign.specs.TouchedNet.{mark_more, marks_done}
 use Rattle.foreign.proofs.touching.mark_touched.Goals as goal
 
 pub overflow_add-count : goal.overflow_add-count
 overflow_add-count g c =
-    omega (arith, c.points-p-end.ensures.within.few_points, count_le (touched (g.S.Space.meaning c.args.s.now) c.args.k c.args.weights.now) c.loop-p.p, byte_le c.is_touched-touched.result)
+    let w = c.args.weights.now in
+    let t = touched (g.S.Space.meaning w.space.now) c.args.k w.each.now in
+    let one = c.from-count.ensures ∙ byte_bit c.is_touched-touched.result ∙ ap (λ b. cond b 1 0) c.is_touched-touched.ensures in
+    omega (arith, w.within.few_points, c.requires, c.loop-p.invariant.0, one, sum_more (λ p. cond (t p) 1 0) c.loop-p.p, count_le t (c.loop-p.p + 1))
 
 pub loop-p-preserved : goal.loop-p-preserved
-loop-p-preserved g c = (
-  count_more (touched (g.S.Space.meaning c.args.s.now) c.args.k c.args.weights.now) c.loop-p.p c.loop-p.count c.from-count.result c.is_touched-touched.result c.loop-p.invariant.0 c.from-count.ensures c.is_touched-touched.ensures,
-  mark_more (touched (g.S.Space.meaning c.args.s.now) c.args.k c.args.weights.now) c.loop-p.marks c.loop-p.p c.from.result c.is_touched-touched.result (omega arith) c.from.ensures c.is_touched-touched.ensures c.loop-p.invariant.1,
-)
+loop-p-preserved g c =
+    let w = c.args.weights.now in
+    let t = touched (g.S.Space.meaning w.space.now) c.args.k w.each.now in
+    let one = c.from-count.ensures ∙ byte_bit c.is_touched-touched.result ∙ ap (λ b. cond b 1 0) c.is_touched-touched.ensures in (
+      omega (arith, c.loop-p.invariant.0, one, sum_more (λ p. cond (t p) 1 0) c.loop-p.p),
+      mark_more t c.loop-p.marks c.loop-p.p c.from.result c.is_touched-touched.result (omega arith) c.from.ensures c.is_touched-touched.ensures c.loop-p.invariant.1,
+    )
 
 pub returns : goal.returns
 returns g c =
-    let done = marks_done (touched (g.S.Space.meaning c.args.s.now) c.args.k c.args.weights.now) c.loop-p.marks (g.S.Space.meaning c.args.s.now).points c.loop-p.p c.loop-p.count (omega arith) (omega arith) c.loop-p.invariant.0 c.loop-p.invariant.1 in
+    let w = c.args.weights.now in
+    let S = g.S.Space.meaning w.space.now in
+    let done = marks_done (touched S c.args.k w.each.now) c.loop-p.marks S.points c.loop-p.p c.loop-p.count (omega arith) (omega (arith, c.requires)) c.loop-p.invariant.0 c.loop-p.invariant.1 in
     record { marks = done.0; count = done.1 }

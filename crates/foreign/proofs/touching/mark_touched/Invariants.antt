@@ -6,5 +6,5 @@ use Rattle.foreign.proofs.touching.mark_touched.Given as goal
 -- the marks so far are written and counted
 abbrev pub invariant-loop-p : goal.invariant-loop-p
 invariant-loop-p g l =
-    (l.count ≡ count_below (touched (g.S.Space.meaning l.s) l.k l.weights) l.p)
-    × ((q : ℕ) → q < l.p → get_or l.marks q 0 ≡ cond (touched (g.S.Space.meaning l.s) l.k l.weights q) 1 0)
+    (l.count ≡ count_below (touched (g.S.Space.meaning l.weights.space.now) l.k l.weights.each.now) l.p)
+    × ((q : ℕ) → q < l.p → get_or l.marks q 0 ≡ cond (touched (g.S.Space.meaning l.weights.space.now) l.k l.weights.each.now q) 1 0)
