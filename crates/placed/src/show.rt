@@ -8,6 +8,7 @@ use nets::verifier::{Lowest, Verifier};
 use placing::place::place;
 use ranges::number::RangeNumber;
 use ranges::space::{OrderedSpace, Space};
+use runs::buffers::Buffers;
 
 pub fn show_boxes<S: Space>(rt: &HostRuntime, job: &str, s: &S) -> anyhow::Result<()> {
     show_job(rt, job, "greedy and lowest", s, &Greedy, &Lowest)?;
@@ -34,43 +35,23 @@ fn show_job<S: Space, F: Finder<S>, V: Verifier<S>>(
         return Err(anyhow!("the job has too many points"));
     }
     print!(rt; "{job}, {by}: ")?;
-    show_placed(rt, s, f, v, &mut [7; 16][0..n], &mut [7; 16][0..n])
-}
-
-fn show_placed<S: Space, F: Finder<S>, V: Verifier<S>>(
-    rt: &HostRuntime,
-    s: &S,
-    f: &F,
-    v: &V,
-    weights: &mut [u64],
-    marks: &mut [u8],
-) -> anyhow::Result<()> {
-    let mut ledger = [RangeNumber(9); 48];
-    let mut scratch = [9u8; 16];
+    let mut buffers = Buffers {
+        weights: &mut [7; 16][0..n],
+        marks: &mut [7; 16][0..n],
+        ledger: &mut [RangeNumber(9); 48],
+        scratch: &mut [9; 16],
+    };
     let mut sheet = [9u8; 704];
-    match place(
-        s,
-        f,
-        v,
-        weights,
-        marks,
-        &mut ledger,
-        &mut scratch,
-        &mut sheet,
-    ) {
-        Ok((points, floor, rounds, len)) => {
-            println!(rt; "points {points}, floor {floor}, rounds {rounds}, length {len}")?;
-            show_bytes(rt, &sheet, len)?;
-            show_weights(rt, weights)
-        }
-        Err(_) => Err(anyhow!("place refuses the job")),
-    }
+    let (points, floor, rounds, len) = place(s, f, v, &mut buffers, &mut sheet)?;
+    println!(rt; "points {points}, floor {floor}, rounds {rounds}, length {len}")?;
+    show_bytes(rt, &sheet, len)?;
+    show_weights(rt, buffers.weights)
 }
 
 fn show_bytes(rt: &HostRuntime, sheet: &[u8], len: usize) -> anyhow::Result<()> {
     print!(rt; "sheet")?;
-    for b in sheet.iter().take(len) {
-        print!(rt; " {b:02x}")?;
+    for byte in sheet.iter().take(len) {
+        print!(rt; " {byte:02x}")?;
     }
     println!(rt; "")?;
     Ok(())

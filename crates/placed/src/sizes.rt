@@ -3,8 +3,9 @@ use greedy::greedy::Greedy;
 use nets::verifier::Lowest;
 use placing::place::place;
 use ranges::number::RangeNumber;
-use ranges::refusal::Refusal;
+use ranges::refusal::{Refusal, answer_number};
 use ranges::space::Space;
+use runs::buffers::Buffers;
 use shapes::box_range::{BoxPoint, BoxRange};
 use shapes::boxes::Boxes;
 
@@ -111,38 +112,31 @@ pub fn show_refusals(rt: &HostRuntime) -> anyhow::Result<()> {
 }
 
 fn show_sizes<S: Space>(rt: &HostRuntime, what: &str, s: &S, sizes: Sizes) -> anyhow::Result<()> {
-    match try_sizes(s, sizes) {
-        None => println!(rt; "{what}: 0")?,
-        Some(Refusal::EmptyRange(j)) => {
-            let j = j.0;
-            println!(rt; "{what}: 5 range {j}")?;
-        }
-        Some(e) => {
-            let number = e.number();
-            println!(rt; "{what}: {number}")?;
-        }
+    let placed = try_sizes(s, sizes);
+    match placed {
+        Err(Refusal::EmptyRange(j)) => println!(rt; "{what}: 5 range {j}")?,
+        _ => println!(rt; "{what}: {}", answer_number(&placed))?,
     }
     Ok(())
 }
 
 // Place with so much of each buffer, and nothing beyond what there is.
-fn try_sizes<S: Space>(s: &S, sizes: Sizes) -> Option<Refusal> {
-    let mut weights = [7u64; 1];
-    let mut marks = [7u8; 1];
-    let mut ledger = [RangeNumber(9); 3];
-    let mut scratch = [9u8; 1];
+fn try_sizes<S: Space>(s: &S, sizes: Sizes) -> Result<(), Refusal> {
+    let mut buffers = Buffers {
+        weights: &mut [7; 1][0..sizes.weights.min(1)],
+        marks: &mut [7; 1][0..sizes.marks.min(1)],
+        ledger: &mut [RangeNumber(9); 3][0..sizes.ledger.min(3)],
+        scratch: &mut [9; 1][0..sizes.scratch.min(1)],
+    };
     let mut sheet = [9u8; 344];
     place(
         s,
         &Greedy,
         &Lowest,
-        &mut weights[0..sizes.weights.min(1)],
-        &mut marks[0..sizes.marks.min(1)],
-        &mut ledger[0..sizes.ledger.min(3)],
-        &mut scratch[0..sizes.scratch.min(1)],
+        &mut buffers,
         &mut sheet[0..sizes.sheet.min(344)],
-    )
-    .err()
+    )?;
+    Ok(())
 }
 
 // A sheet one byte short is found last of all; still nothing is written.
@@ -152,23 +146,19 @@ fn show_untouched<S: Space>(rt: &HostRuntime, s: &S) -> anyhow::Result<()> {
     let mut ledger = [RangeNumber(9); 3];
     let mut scratch = [9u8; 1];
     let mut sheet = [9u8; 343];
-    let refused = place(
-        s,
-        &Greedy,
-        &Lowest,
-        &mut weights,
-        &mut marks,
-        &mut ledger,
-        &mut scratch,
-        &mut sheet,
-    )
-    .is_err();
+    let mut buffers = Buffers {
+        weights: &mut weights,
+        marks: &mut marks,
+        ledger: &mut ledger,
+        scratch: &mut scratch,
+    };
+    let refused = place(s, &Greedy, &Lowest, &mut buffers, &mut sheet).is_err();
     let same = refused
-        && weights[0] == 7
-        && marks[0] == 7
-        && ledger[0].0 == 9
-        && scratch[0] == 9
-        && sheet[0] == 9;
+        && weights == [7; 1]
+        && marks == [7; 1]
+        && ledger == [RangeNumber(9); 3]
+        && scratch == [9; 1]
+        && sheet == [9; 343];
     println!(rt; "buffers as they were: {same}")?;
     Ok(())
 }
