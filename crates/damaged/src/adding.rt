@@ -1,5 +1,5 @@
 // Ledger sections added at the limits, as the first and behind another.
-use crate::job::{LEDGER, begun, copy_bytes, same, untouched, word};
+use crate::job::{LEDGER, begun, untouched, word};
 use ranges::number::RangeNumber;
 use ranges::refusal::answer_number;
 use sheets::writer::SheetWriter;
@@ -102,14 +102,13 @@ pub fn adds(rt: &HostRuntime) -> anyhow::Result<()> {
 
 // The buffer is compared before the writer is spent, since that writes too.
 fn say_add(rt: &HostRuntime, add: &Add) -> anyhow::Result<()> {
-    let what = add.what;
     let lines = vec![in rt.alloc(); RangeNumber(7); add.lines]?;
     let mut sheet = vec![in rt.alloc(); 9u8; add.room]?;
     let mut writer = SheetWriter::begin();
     let number = answer_number(&writer.add(&mut sheet, add.k, &lines));
     let word = word(untouched(&sheet));
     let torn = writer.tear_up(&mut sheet);
-    println!(rt; "add, {what}: {number}, {word}, torn up {torn}")?;
+    println!(rt; "add, {}: {number}, {word}, torn up {torn}", add.what)?;
     Ok(())
 }
 
@@ -151,14 +150,17 @@ pub fn second_adds(rt: &HostRuntime) -> anyhow::Result<()> {
 }
 
 fn say_second(rt: &HostRuntime, second: &Second) -> anyhow::Result<()> {
-    let what = second.what;
-    let mut before = [0u8; 64];
     let mut sheet = vec![in rt.alloc(); 9u8; second.room]?;
+    // made before there is a writer, which an early return would forget
+    let mut before = vec![in rt.alloc(); 0u8; second.room]?;
     let mut writer = begun(&mut sheet, &[1]);
-    copy_bytes(&sheet, &mut before);
+    before.copy_from_slice(&sheet);
     let number = answer_number(&writer.add(&mut sheet, second.k, &LEDGER));
-    let word = word(same(&sheet, &before));
+    let word = word(sheet == before);
     let torn = writer.tear_up(&mut sheet);
-    println!(rt; "second add, {what}: {number}, {word}, torn up {torn}")?;
+    println!(rt;
+        "second add, {}: {number}, {word}, torn up {torn}",
+        second.what
+    )?;
     Ok(())
 }

@@ -1,7 +1,5 @@
 // Sheets closed at the limits; a refused writer comes back and is torn up.
-use crate::job::{begun, book, copy_bytes, mark, same, word};
-use ranges::refusal::Refusal;
-use sheets::writer::SheetWriter;
+use crate::job::{begun, book, mark, word};
 
 // A ledger for each guess, the worked book, and so many marks, with points 1 and 3 chosen.
 struct Close {
@@ -117,26 +115,18 @@ fn say_close(rt: &HostRuntime, close: &Close) -> anyhow::Result<()> {
     let what = close.what;
     let mut marks = vec![in rt.alloc(); 0u8; close.marks]?;
     mark(&mut marks);
-    let mut before = [0u8; 96];
     let mut sheet = vec![in rt.alloc(); 9u8; close.room]?;
+    // made before there is a writer, which an early return would forget
+    let mut before = vec![in rt.alloc(); 0u8; close.room]?;
     let writer = begun(&mut sheet, close.guesses);
-    copy_bytes(&sheet, &mut before);
-    let closed = writer.close(&mut sheet, &book(), close.floor, &marks);
-    let word = word(same(&sheet, &before));
-    let (number, len) = spent(closed, &mut sheet);
-    let end = end_word(number);
-    println!(rt; "close, {what}: {number}, {word}, {end} {len}")?;
-    Ok(())
-}
-
-// The number answered, and the length of the sheet or of what was torn up.
-fn spent(closed: Result<usize, (SheetWriter, Refusal)>, sheet: &mut [u8]) -> (u8, usize) {
-    match closed {
-        Ok(len) => (0, len),
-        Err((back, e)) => (e.number(), back.tear_up(sheet)),
+    before.copy_from_slice(&sheet);
+    match writer.close(&mut sheet, &book(), close.floor, &marks) {
+        Ok(len) => println!(rt; "close, {what}: 0, {}, length {len}", word(sheet == before))?,
+        Err((back, e)) => {
+            let kept = word(sheet == before);
+            let torn = back.tear_up(&mut sheet);
+            println!(rt; "close, {what}: {}, {kept}, torn up {torn}", e.number())?;
+        }
     }
-}
-
-fn end_word(number: u8) -> &'static str {
-    if number == 0 { "length" } else { "torn up" }
+    Ok(())
 }

@@ -1,7 +1,6 @@
 // The finished job whose sheet is damaged: its ledger, book and marks.
 use guesses::book::{Book, GuessLine, Verdict};
 use ranges::number::RangeNumber;
-use ranges::refusal::Refusal;
 use sheets::single::write_sheet;
 use sheets::writer::SheetWriter;
 
@@ -41,8 +40,8 @@ pub fn book() -> Book {
 // Marks the points 1 and 3, as far as there are so many.
 pub fn mark(marks: &mut [u8]) {
     for p in [1, 3] {
-        if p < marks.len() {
-            marks[p] = 1;
+        if let Some(mark) = marks.get_mut(p) {
+            *mark = 1;
         }
     }
 }
@@ -56,39 +55,9 @@ pub fn begun(sheet: &mut [u8], guesses: &[u16]) -> SheetWriter {
     writer
 }
 
-// What a refused call must leave behind.
-pub fn copy_bytes(from: &[u8], to: &mut [u8]) {
-    for (i, byte) in from.iter().enumerate() {
-        if i < to.len() {
-            to[i] = *byte;
-        }
-    }
-}
-
-pub fn same(sheet: &[u8], before: &[u8]) -> bool {
-    for (i, byte) in sheet.iter().enumerate() {
-        if i >= before.len() || before[i] != *byte {
-            return false;
-        }
-    }
-    true
-}
-
 // Whether a buffer is still as it was made, every byte 9.
 pub fn untouched(buffer: &[u8]) -> bool {
-    for byte in buffer {
-        if *byte != 9 {
-            return false;
-        }
-    }
-    true
-}
-
-pub fn length_number(r: &Result<usize, Refusal>) -> u8 {
-    match r {
-        Ok(_) => 0,
-        Err(e) => e.number(),
-    }
+    buffer.iter().all(|byte| *byte == 9)
 }
 
 pub fn word(kept: bool) -> &'static str {

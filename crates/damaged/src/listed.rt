@@ -1,6 +1,7 @@
 // The listing of the job at its limits.
-use crate::job::{book, length_number, mark, untouched, word};
+use crate::job::{book, mark, untouched, word};
 use listings::listing::write_listing;
+use ranges::refusal::answer_number;
 
 struct Listed {
     what: &'static str,
@@ -79,7 +80,7 @@ fn say_listing(rt: &HostRuntime, listed: &Listed) -> anyhow::Result<()> {
     mark(&mut marks);
     let mut text = vec![in rt.alloc(); 9u8; listed.room]?;
     let answer = write_listing(listed.n, 2, &book(), 1, &marks, &mut text);
-    let number = length_number(&answer);
+    let number = answer_number(&answer);
     let word = word(untouched(&text));
     let len = answer.unwrap_or(0);
     println!(rt; "listing, {what}: {number}, {word}, length {len}")?;

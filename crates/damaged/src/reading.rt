@@ -1,5 +1,6 @@
 // Sheets for the reader: each condition broken alone, and kept at its limit.
 use crate::job::WORKED;
+use ranges::refusal::answer_number;
 use sheets::reader::read_sheet;
 
 // What is done to a copy of the worked sheet: the bytes changed, each with its place, and how many are kept.
@@ -257,28 +258,19 @@ pub fn damaged_sheets(rt: &HostRuntime) -> anyhow::Result<()> {
 }
 
 fn say_damage(rt: &HostRuntime, damage: &Damage) -> anyhow::Result<()> {
-    let what = damage.what;
     let mut copy = Vec::from_slice(rt.alloc(), &WORKED)?;
     change(&mut copy, damage.changes);
     copy.truncate(damage.len);
-    let number = read_number(&copy);
-    println!(rt; "damaged, {what}: {number}")?;
+    let number = answer_number(&read_sheet(&copy));
+    println!(rt; "damaged, {}: {number}", damage.what)?;
     Ok(())
 }
 
 fn change(sheet: &mut [u8], changes: &[(usize, u8)]) {
-    for change in changes {
-        let (place, byte) = *change;
-        if place < sheet.len() {
-            sheet[place] = byte;
+    for (place, byte) in changes {
+        if let Some(changed) = sheet.get_mut(*place) {
+            *changed = *byte;
         }
-    }
-}
-
-fn read_number(bytes: &[u8]) -> u8 {
-    match read_sheet(bytes) {
-        Ok(_) => 0,
-        Err(e) => e.number(),
     }
 }
 
@@ -345,9 +337,8 @@ static SMALLS: [Small; 13] = [
 
 pub fn small_sheets(rt: &HostRuntime) -> anyhow::Result<()> {
     for small in &SMALLS {
-        let what = small.what;
-        let number = read_number(small.bytes);
-        println!(rt; "small, {what}: {number}")?;
+        let number = answer_number(&read_sheet(small.bytes));
+        println!(rt; "small, {}: {number}", small.what)?;
     }
     Ok(())
 }
@@ -365,7 +356,7 @@ fn say_book(rt: &HostRuntime, len: u8) -> anyhow::Result<()> {
     let trailer = [0, 0, 0, 0, len, 0, 0, 0, 255, 255, 255, 255, 0, 0, 0, 0];
     let mut sheet = vec![in rt.alloc(); 0u8; len as usize]?;
     sheet.extend_from_slice(&trailer)?;
-    let number = read_number(&sheet);
+    let number = answer_number(&read_sheet(&sheet));
     println!(rt; "book of {len} bytes: {number}")?;
     Ok(())
 }
