@@ -89,7 +89,8 @@ fn points(lay: &mut Lay<'_>, marks: &[u8])
     ensures { Lays lay.old (points_text (chosen_points marks.now)) lay.new }
 {
     for (p, byte) in marks.iter().enumerate() {
-        if *byte == 1 {
+        let marked = *byte == 1;
+        if marked {
             at_line(lay, p as u16);
         }
     }
