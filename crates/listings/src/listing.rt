@@ -109,14 +109,6 @@ fn lay_listing(out: &mut [u8], n: u16, m: u16, book: &Book, floor: u16, marks: &
     lay.end()
 }
 
-// How long the listing is: where it ends in a buffer without a byte.
-fn listing_len(n: u16, m: u16, book: &Book, floor: u16, marks: &[u8]) -> usize
-    requires { length marks.now ≤ 65535 }
-    ensures { result ≡ length (listing n m (book_lines book.now) floor marks.now) }
-{
-    lay_listing(&mut [], n, m, book, floor, marks)
-}
-
 pub fn write_listing(
     n: u16,
     m: u16,
@@ -132,7 +124,8 @@ pub fn write_listing(
     if marks.len() != n as usize {
         return Err(Refusal::WrongLength);
     }
-    let len = listing_len(n, m, book, floor, marks);
+    // how long the listing is: where it ends in a buffer without a byte
+    let len = lay_listing(&mut [], n, m, book, floor, marks);
     if out.len() < len {
         return Err(Refusal::ShortBuffer);
     }

@@ -6,7 +6,7 @@ use Rattle.listings.proofs.listing.write_listing.Goals as goal
 
 pub returns-clause-bytes : goal.returns-clause-bytes
 returns-clause-bytes c =
-    laid_whole (listing c.args.n c.args.m (book_lines c.args.book.now) c.args.floor c.args.marks.now) c.args.out.now c.lay_listing.new.out c.lay_listing.result c.lay_listing.ensures (omega (arith, c.if-out-len.false, c.listing_len-len.ensures))
+    laid_whole (listing c.args.n c.args.m (book_lines c.args.book.now) c.args.floor c.args.marks.now) c.args.out.now c.lay_listing.new.out c.lay_listing.result c.lay_listing.ensures (omega (arith, c.if-out-len.false, c.lay_listing-len.ensures.place))
 
 pub returns-clause-digits : goal.returns-clause-digits
 returns-clause-digits c = decimal_law
