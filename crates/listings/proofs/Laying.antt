@@ -1,6 +1,7 @@
 -- Texts laid one behind the other.
 use Rattle.std.proofs.Common.{◌≡◌, ℕ, Bool, true, false, cond, ◌+◌, ◌<◌, ◌≤◌, List, [], ◌∷◌, ◌++◌, length, get_or, take, drop, sym, refl, ap, subst, ◌∙◌, zero-add, add-zero, arith, length-append}
 use Rattle.std.proofs.lemmas.Fmt.{decimal_is_IsNumeral, first_decimal}
+use Rattle.std.proofs.lemmas.Grind.{flat_map-append}
 use Rattle.std.proofs.lemmas.List.{append-nil, take_more, flat_map_more}
 use Rattle.ranges.specs.Weights.{marked}
 use Rattle.guesses.specs.declared.book.GuessLine.{GuessLine}
@@ -8,7 +9,7 @@ use Rattle.guesses.specs.Books.{no_line}
 use Rattle.sheets.specs.Bytes.{stored}
 use Rattle.sheets.specs.Sheets.{chosen_below, chosen_at}
 use Rattle.sheets.proofs.Points.{chosen_more}
-use Rattle.sheets.proofs.Stores.{stored_append, stored_put, joined_append}
+use Rattle.sheets.proofs.Stores.{stored_append, stored_put}
 use Rattle.listings.specs.declared.text.Lay.{Lay}
 use Rattle.listings.specs.Text.{Laid, Lays, DecimalLaw}
 use Rattle.listings.specs.Listings.{guess_text, guesses_text, at_text, points_text}
@@ -43,7 +44,7 @@ guesses_more ls i h =
     ap guesses_text (take_more ls i no_line h) ∙ sym (flat_map_more guess_text [] (take i ls) (get_or ls i no_line))
 
 points_more : (ms : List ℕ) (p : ℕ) → points_text (chosen_below ms (p + 1)) ≡ points_text (chosen_below ms p) ++ points_text (chosen_at ms p)
-points_more ms p = ap points_text (chosen_more ms p) ∙ joined_append at_text (chosen_below ms p) (chosen_at ms p)
+points_more ms p = ap points_text (chosen_more ms p) ∙ flat_map-append at_text (chosen_below ms p) (chosen_at ms p)
 
 point_text : (b : Bool) (p : ℕ) → points_text (cond b (p ∷ []) []) ≡ cond b (at_text p) []
 point_text true p = append-nil (at_text p)
