@@ -1,17 +1,11 @@
 // Greedy on boxes.
-use crate::try_guess::{Trial, try_guesses};
+use crate::try_guess::{Case, Trial, try_guesses};
 use greedy::greedy::Greedy;
 use shapes::box_range::{BoxPoint, BoxRange};
 use shapes::boxes::Boxes;
 
-struct BoxCase {
-    points: &'static [BoxPoint],
-    boxes: &'static [BoxRange],
-    trial: Trial<'static>,
-}
-
 // One point lies in all boxes, and every box holds as many points.
-const TIES: BoxCase = BoxCase {
+const TIES: Case<BoxRange> = Case {
     points: &[
         BoxPoint { x: 0, y: 0 },
         BoxPoint { x: 10, y: 0 },
@@ -23,7 +17,7 @@ const TIES: BoxCase = BoxCase {
         BoxPoint { x: 10, y: 20 },
         BoxPoint { x: 20, y: 20 },
     ],
-    boxes: &[
+    ranges: &[
         BoxRange {
             x0: 0,
             y0: 0,
@@ -57,7 +51,7 @@ const TIES: BoxCase = BoxCase {
 };
 
 // Points on edges and corners, and a box that is one point.
-const EDGES: BoxCase = BoxCase {
+const EDGES: Case<BoxRange> = Case {
     points: &[
         BoxPoint { x: 10, y: 10 },
         BoxPoint { x: 20, y: 20 },
@@ -65,7 +59,7 @@ const EDGES: BoxCase = BoxCase {
         BoxPoint { x: 20, y: 15 },
         BoxPoint { x: 21, y: 15 },
     ],
-    boxes: &[
+    ranges: &[
         BoxRange {
             x0: 10,
             y0: 10,
@@ -92,7 +86,7 @@ const EDGES: BoxCase = BoxCase {
     },
 };
 
-const SIXTEEN: BoxCase = BoxCase {
+const SIXTEEN: Case<BoxRange> = Case {
     points: &[
         BoxPoint { x: 71, y: 21 },
         BoxPoint { x: 74, y: 24 },
@@ -111,7 +105,7 @@ const SIXTEEN: BoxCase = BoxCase {
         BoxPoint { x: 44, y: 44 },
         BoxPoint { x: 18, y: 32 },
     ],
-    boxes: &[
+    ranges: &[
         BoxRange {
             x0: 18,
             y0: 20,
@@ -192,9 +186,9 @@ const SIXTEEN: BoxCase = BoxCase {
     },
 };
 
-const NO_RANGES: BoxCase = BoxCase {
+const NO_RANGES: Case<BoxRange> = Case {
     points: &[BoxPoint { x: 1, y: 1 }, BoxPoint { x: 2, y: 2 }],
-    boxes: &[],
+    ranges: &[],
     trial: Trial {
         name: "no ranges",
         weights: &[1; 2],
@@ -203,9 +197,9 @@ const NO_RANGES: BoxCase = BoxCase {
 };
 
 // The last box holds no point, so it is never heavy and always missed.
-const BARE: BoxCase = BoxCase {
+const BARE: Case<BoxRange> = Case {
     points: &[BoxPoint { x: 1, y: 1 }],
-    boxes: &[
+    ranges: &[
         BoxRange {
             x0: 0,
             y0: 0,
@@ -226,16 +220,12 @@ const BARE: BoxCase = BoxCase {
     },
 };
 
-static CASES: [BoxCase; 5] = [TIES, EDGES, SIXTEEN, NO_RANGES, BARE];
+static CASES: [Case<BoxRange>; 5] = [TIES, EDGES, SIXTEEN, NO_RANGES, BARE];
 
 pub fn show_boxes(rt: &HostRuntime) -> anyhow::Result<()> {
     for case in &CASES {
-        show_case(rt, case)?;
+        let space = Boxes::new(case.points, case.ranges);
+        try_guesses(rt, "greedy", &Greedy, &space, case.trial)?;
     }
     Ok(())
-}
-
-fn show_case(rt: &HostRuntime, case: &BoxCase) -> anyhow::Result<()> {
-    let space = Boxes::new(case.points, case.boxes);
-    try_guesses(rt, "greedy", &Greedy, &space, case.trial)
 }

@@ -1,14 +1,8 @@
 // Which range each verifier names, for marks and weights given by hand.
+use crate::strip_cases::TENS;
 use crate::verdict::judge;
-use shapes::strip_range::{StripPoint, StripRange};
+use shapes::strip_range::StripRange;
 use shapes::strips::Strips;
-
-const POINTS: [StripPoint; 4] = [
-    StripPoint { x: 0 },
-    StripPoint { x: 10 },
-    StripPoint { x: 20 },
-    StripPoint { x: 30 },
-];
 
 // Points 0 and 1, points 2 and 3, points 1 and 2.
 const STRIPS: [StripRange; 3] = [
@@ -99,7 +93,7 @@ pub fn show_picks(rt: &HostRuntime) -> anyhow::Result<()> {
 }
 
 fn show_pick(rt: &HostRuntime, pick: &Pick) -> anyhow::Result<()> {
-    let space = Strips::new(&POINTS, &STRIPS);
+    let space = Strips::new(&TENS, &STRIPS);
     let verdicts = judge(&space, &pick.marks, &pick.weights);
     let name = pick.name;
     println!(rt; "picks, {name}: {verdicts}")?;

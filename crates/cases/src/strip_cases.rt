@@ -1,25 +1,22 @@
 // Greedy and the sweep on strips.
-use crate::try_guess::{Trial, try_guesses};
+use crate::try_guess::{Case, Trial, try_guesses};
 use greedy::greedy::Greedy;
 use nets::sweep::Sweep;
 use shapes::strip_range::{StripPoint, StripRange};
 use shapes::strips::Strips;
 use std::alloc::{AllocError, Global};
 
-struct StripCase {
-    points: &'static [StripPoint],
-    strips: &'static [StripRange],
-    trial: Trial<'static>,
-}
+// Four points, 10 apart.
+pub const TENS: [StripPoint; 4] = [
+    StripPoint { x: 0 },
+    StripPoint { x: 10 },
+    StripPoint { x: 20 },
+    StripPoint { x: 30 },
+];
 
-const FOUR: StripCase = StripCase {
-    points: &[
-        StripPoint { x: 0 },
-        StripPoint { x: 10 },
-        StripPoint { x: 20 },
-        StripPoint { x: 30 },
-    ],
-    strips: &[StripRange { a: 0, b: 10 }, StripRange { a: 20, b: 30 }],
+const FOUR: Case<StripRange> = Case {
+    points: &TENS,
+    ranges: &[StripRange { a: 0, b: 10 }, StripRange { a: 20, b: 30 }],
     trial: Trial {
         name: "four points",
         weights: &[1; 4],
@@ -27,7 +24,7 @@ const FOUR: StripCase = StripCase {
     },
 };
 
-const EQUAL: StripCase = StripCase {
+const EQUAL: Case<StripRange> = Case {
     points: &[
         StripPoint { x: 5 },
         StripPoint { x: 5 },
@@ -36,7 +33,7 @@ const EQUAL: StripCase = StripCase {
         StripPoint { x: 9 },
         StripPoint { x: 20 },
     ],
-    strips: &[
+    ranges: &[
         StripRange { a: 5, b: 5 },
         StripRange { a: 6, b: 9 },
         StripRange { a: 5, b: 9 },
@@ -50,7 +47,7 @@ const EQUAL: StripCase = StripCase {
     },
 };
 
-const FOURTEEN: StripCase = StripCase {
+const FOURTEEN: Case<StripRange> = Case {
     points: &[
         StripPoint { x: -289 },
         StripPoint { x: -276 },
@@ -67,7 +64,7 @@ const FOURTEEN: StripCase = StripCase {
         StripPoint { x: 62 },
         StripPoint { x: 176 },
     ],
-    strips: &[
+    ranges: &[
         StripRange { a: -93, b: -9 },
         StripRange { a: -61, b: 24 },
         StripRange { a: 52, b: 120 },
@@ -87,14 +84,9 @@ const FOURTEEN: StripCase = StripCase {
 };
 
 // A range is heavy only above its share, so guess 2 still leaves all of them light.
-const ALL_LIGHT: StripCase = StripCase {
-    points: &[
-        StripPoint { x: 0 },
-        StripPoint { x: 10 },
-        StripPoint { x: 20 },
-        StripPoint { x: 30 },
-    ],
-    strips: &[
+const ALL_LIGHT: Case<StripRange> = Case {
+    points: &TENS,
+    ranges: &[
         StripRange { a: 0, b: 0 },
         StripRange { a: 10, b: 10 },
         StripRange { a: 20, b: 20 },
@@ -107,14 +99,9 @@ const ALL_LIGHT: StripCase = StripCase {
     },
 };
 
-const NO_WEIGHT: StripCase = StripCase {
-    points: &[
-        StripPoint { x: 0 },
-        StripPoint { x: 10 },
-        StripPoint { x: 20 },
-        StripPoint { x: 30 },
-    ],
-    strips: &[StripRange { a: 0, b: 10 }, StripRange { a: 20, b: 30 }],
+const NO_WEIGHT: Case<StripRange> = Case {
+    points: &TENS,
+    ranges: &[StripRange { a: 0, b: 10 }, StripRange { a: 20, b: 30 }],
     trial: Trial {
         name: "all weights 0",
         weights: &[0; 4],
@@ -122,14 +109,9 @@ const NO_WEIGHT: StripCase = StripCase {
     },
 };
 
-const ONE_HEAVY: StripCase = StripCase {
-    points: &[
-        StripPoint { x: 0 },
-        StripPoint { x: 10 },
-        StripPoint { x: 20 },
-        StripPoint { x: 30 },
-    ],
-    strips: &[StripRange { a: 0, b: 10 }, StripRange { a: 20, b: 30 }],
+const ONE_HEAVY: Case<StripRange> = Case {
+    points: &TENS,
+    ranges: &[StripRange { a: 0, b: 10 }, StripRange { a: 20, b: 30 }],
     trial: Trial {
         name: "one heavy point",
         weights: &[9, 1, 1, 1],
@@ -138,14 +120,9 @@ const ONE_HEAVY: StripCase = StripCase {
 };
 
 // Greedy counts ranges and not weights: the point in both has none.
-const LIGHT_POINT: StripCase = StripCase {
-    points: &[
-        StripPoint { x: 0 },
-        StripPoint { x: 10 },
-        StripPoint { x: 20 },
-        StripPoint { x: 30 },
-    ],
-    strips: &[StripRange { a: 0, b: 10 }, StripRange { a: 10, b: 20 }],
+const LIGHT_POINT: Case<StripRange> = Case {
+    points: &TENS,
+    ranges: &[StripRange { a: 0, b: 10 }, StripRange { a: 10, b: 20 }],
     trial: Trial {
         name: "a shared point of weight 0",
         weights: &[3, 0, 3, 0],
@@ -153,13 +130,13 @@ const LIGHT_POINT: StripCase = StripCase {
     },
 };
 
-const ONE_RANGE: StripCase = StripCase {
+const ONE_RANGE: Case<StripRange> = Case {
     points: &[
         StripPoint { x: 0 },
         StripPoint { x: 10 },
         StripPoint { x: 20 },
     ],
-    strips: &[StripRange { a: 10, b: 20 }],
+    ranges: &[StripRange { a: 10, b: 20 }],
     trial: Trial {
         name: "one range",
         weights: &[1; 3],
@@ -167,9 +144,9 @@ const ONE_RANGE: StripCase = StripCase {
     },
 };
 
-const ONE_POINT: StripCase = StripCase {
+const ONE_POINT: Case<StripRange> = Case {
     points: &[StripPoint { x: 5 }],
-    strips: &[StripRange { a: 0, b: 9 }],
+    ranges: &[StripRange { a: 0, b: 9 }],
     trial: Trial {
         name: "one point",
         weights: &[1],
@@ -189,9 +166,9 @@ const EIGHT: [StripPoint; 8] = [
     StripPoint { x: 7 },
 ];
 
-const LONG_ONE: StripCase = StripCase {
+const LONG_ONE: Case<StripRange> = Case {
     points: &EIGHT,
-    strips: &[StripRange { a: 0, b: 4 }],
+    ranges: &[StripRange { a: 0, b: 4 }],
     trial: Trial {
         name: "one long strip",
         weights: &[1; 8],
@@ -199,9 +176,9 @@ const LONG_ONE: StripCase = StripCase {
     },
 };
 
-const LONG_TWO: StripCase = StripCase {
+const LONG_TWO: Case<StripRange> = Case {
     points: &EIGHT,
-    strips: &[StripRange { a: 0, b: 4 }, StripRange { a: 1, b: 5 }],
+    ranges: &[StripRange { a: 0, b: 4 }, StripRange { a: 1, b: 5 }],
     trial: Trial {
         name: "two long strips",
         weights: &[1; 8],
@@ -209,9 +186,9 @@ const LONG_TWO: StripCase = StripCase {
     },
 };
 
-const LONG_THREE: StripCase = StripCase {
+const LONG_THREE: Case<StripRange> = Case {
     points: &EIGHT,
-    strips: &[
+    ranges: &[
         StripRange { a: 0, b: 4 },
         StripRange { a: 1, b: 5 },
         StripRange { a: 2, b: 6 },
@@ -223,9 +200,9 @@ const LONG_THREE: StripCase = StripCase {
     },
 };
 
-const LONG_FOUR: StripCase = StripCase {
+const LONG_FOUR: Case<StripRange> = Case {
     points: &EIGHT,
-    strips: &[
+    ranges: &[
         StripRange { a: 0, b: 4 },
         StripRange { a: 1, b: 5 },
         StripRange { a: 2, b: 6 },
@@ -238,7 +215,7 @@ const LONG_FOUR: StripCase = StripCase {
     },
 };
 
-static CASES: [StripCase; 13] = [
+static CASES: [Case<StripRange>; 13] = [
     FOUR,
     EQUAL,
     FOURTEEN,
@@ -256,23 +233,12 @@ static CASES: [StripCase; 13] = [
 
 pub fn show_strips(rt: &HostRuntime) -> anyhow::Result<()> {
     for case in &CASES {
-        show_case(rt, case)?;
+        let space = Strips::new(case.points, case.ranges);
+        try_guesses(rt, "greedy", &Greedy, &space, case.trial)?;
+        try_guesses(rt, "sweep", &Sweep, &space, case.trial)?;
     }
     Ok(())
 }
-
-fn show_case(rt: &HostRuntime, case: &StripCase) -> anyhow::Result<()> {
-    let space = Strips::new(case.points, case.strips);
-    try_guesses(rt, "greedy", &Greedy, &space, case.trial)?;
-    try_guesses(rt, "sweep", &Sweep, &space, case.trial)
-}
-
-static MANY_POINTS: [StripPoint; 4] = [
-    StripPoint { x: 0 },
-    StripPoint { x: 10 },
-    StripPoint { x: 20 },
-    StripPoint { x: 30 },
-];
 
 static MANY: Trial<'static> = Trial {
     name: "many strips",
@@ -283,21 +249,13 @@ static MANY: Trial<'static> = Trial {
 // Gains of 200, 400, 260 and 60, past what a byte tells; the first mark leaves 60 of the 260.
 pub fn show_many(rt: &HostRuntime) -> anyhow::Result<()> {
     let strips = many_strips(rt.alloc())?;
-    let space = Strips::new(&MANY_POINTS, &strips);
+    let space = Strips::new(&TENS, &strips);
     try_guesses(rt, "greedy", &Greedy, &space, MANY)
 }
 
 fn many_strips(heap: Global) -> Result<Vec<StripRange>, AllocError> {
-    let mut strips = Vec::new(heap);
-    for j in 0..460 {
-        let a = if j < 200 {
-            0
-        } else if j < 400 {
-            10
-        } else {
-            20
-        };
-        strips.push(StripRange { a, b: a + 10 })?;
-    }
+    let mut strips = vec![in heap; StripRange { a: 0, b: 10 }; 200]?;
+    strips.resize(400, StripRange { a: 10, b: 20 })?;
+    strips.resize(460, StripRange { a: 20, b: 30 })?;
     Ok(strips)
 }

@@ -1,11 +1,10 @@
 // One call of a finder, and what the verifiers then say.
 use crate::verdict::{Verdicts, judge};
-use anyhow::anyhow;
 use nets::finder::Finder;
 use ranges::hit::is_marked;
 use ranges::number::PointNumber;
-use ranges::refusal::Refusal;
 use ranges::space::Space;
+use shapes::shape::Shape;
 use std::alloc::{AllocError, Global};
 
 // The name of a case, and the weights and guesses to try on it.
@@ -14,6 +13,13 @@ pub struct Trial<'a> {
     pub name: &'a str,
     pub weights: &'a [u64],
     pub guesses: &'a [u16],
+}
+
+// A job, and what to try on it.
+pub struct Case<R: Shape + 'static> {
+    pub points: &'static [R::Point],
+    pub ranges: &'static [R],
+    pub trial: Trial<'static>,
 }
 
 // One guess of a trial under the finder that it names.
@@ -69,28 +75,18 @@ fn find_net<S: Space, F: Finder<S>>(
     let bound = finder.bound(n, m, guess.k);
     let mut marks = vec![in heap; 1u8; n as usize]?;
     let mut scratch = vec![in heap; 1u8; finder.need(n, m)]?;
-    match finder.find(
+    let count = finder.find(
         space,
         guess.k,
         guess.trial.weights,
         &mut marks,
         &mut scratch,
-    ) {
-        Ok(count) => Ok(Found {
-            bound,
-            count,
-            marks,
-        }),
-        Err(e) => Err(refused(e)),
-    }
-}
-
-fn refused(e: Refusal) -> anyhow::Error {
-    match e.number() {
-        8 => anyhow!("a list has the wrong length"),
-        11 => anyhow!("the guess is out of range"),
-        _ => anyhow!("a finder refused"),
-    }
+    )?;
+    Ok(Found {
+        bound,
+        count,
+        marks,
+    })
 }
 
 fn show_found(
@@ -110,11 +106,7 @@ fn show_found(
 
 // The numbers of the marked points.
 fn marked_points<S: Space>(heap: Global, space: &S, marks: &[u8]) -> Result<Vec<u16>, AllocError> {
-    let mut points = Vec::new(heap);
-    for p in 0..space.points() {
-        if is_marked(marks, PointNumber(p)) {
-            points.push(p)?;
-        }
-    }
-    Ok(points)
+    (0..space.points())
+        .filter(|p| is_marked(marks, PointNumber(*p)))
+        .collect(heap)
 }

@@ -8,33 +8,18 @@ use std::fmt;
 
 // One verifier's answer.
 #[derive(Clone, Copy)]
-enum Answer {
-    AllHit,
-    Missed(RangeNumber),
-    Refused(Refusal),
-}
+struct Answer(Result<Option<RangeNumber>, Refusal>);
 
 impl fmt::Display for Answer {
     fn fmt<W: fmt::Write>(&self, f: &mut fmt::Formatter<W>) -> fmt::Result {
-        match *self {
-            Answer::AllHit => write!(f, "none"),
-            Answer::Missed(j) => {
-                let j = j.0;
-                write!(f, "{j}")
-            }
-            Answer::Refused(e) => {
+        match self.0 {
+            Ok(None) => write!(f, "none"),
+            Ok(Some(j)) => write!(f, "{j}"),
+            Err(e) => {
                 let number = e.number();
                 write!(f, "refused {number}")
             }
         }
-    }
-}
-
-fn answer_of(r: Result<Option<RangeNumber>, Refusal>) -> Answer {
-    match r {
-        Ok(None) => Answer::AllHit,
-        Ok(Some(j)) => Answer::Missed(j),
-        Err(e) => Answer::Refused(e),
     }
 }
 
@@ -55,7 +40,7 @@ impl fmt::Display for Verdicts {
 
 pub fn judge<S: Space>(space: &S, marks: &[u8], weights: &[u64]) -> Verdicts {
     Verdicts {
-        lowest: answer_of(Lowest.judge(space, marks, weights)),
-        lightest: answer_of(Lightest.judge(space, marks, weights)),
+        lowest: Answer(Lowest.judge(space, marks, weights)),
+        lightest: Answer(Lightest.judge(space, marks, weights)),
     }
 }

@@ -4,8 +4,7 @@ use nets::finder::Finder;
 use nets::lightest::Lightest;
 use nets::sweep::Sweep;
 use nets::verifier::{Lowest, Verifier};
-use ranges::number::RangeNumber;
-use ranges::refusal::Refusal;
+use ranges::refusal::answer_number;
 use shapes::strip_range::{StripPoint, StripRange};
 use shapes::strips::Strips;
 
@@ -158,16 +157,10 @@ fn say_find<F: Finder<Strips<'static>>>(
     let mut marks = vec![in rt.alloc(); 7u8; find.marks]?;
     let mut scratch = vec![in rt.alloc(); 9u8; find.scratch]?;
     let space = Strips::new(&POINTS, &STRIPS);
-    let number = found(finder.find(&space, find.k, find.weights, &mut marks, &mut scratch));
+    let found = finder.find(&space, find.k, find.weights, &mut marks, &mut scratch);
+    let number = answer_number(&found);
     println!(rt; "{who}, {what}: {number}, marks {marks:?}, scratch {scratch:?}")?;
     Ok(())
-}
-
-fn found(r: Result<u16, Refusal>) -> u8 {
-    match r {
-        Ok(_) => 0,
-        Err(e) => e.number(),
-    }
 }
 
 // One call of each verifier.
@@ -225,15 +218,8 @@ pub fn verifier_calls(rt: &HostRuntime) -> anyhow::Result<()> {
 fn say_judge(rt: &HostRuntime, judge: &Judge) -> anyhow::Result<()> {
     let what = judge.what;
     let space = Strips::new(&POINTS, &STRIPS);
-    let lowest = judged(Lowest.judge(&space, judge.marks, judge.weights));
-    let lightest = judged(Lightest.judge(&space, judge.marks, judge.weights));
+    let lowest = answer_number(&Lowest.judge(&space, judge.marks, judge.weights));
+    let lightest = answer_number(&Lightest.judge(&space, judge.marks, judge.weights));
     println!(rt; "lowest and lightest, {what}: {lowest} {lightest}")?;
     Ok(())
-}
-
-fn judged(r: Result<Option<RangeNumber>, Refusal>) -> u8 {
-    match r {
-        Ok(_) => 0,
-        Err(e) => e.number(),
-    }
 }

@@ -2,9 +2,11 @@
 use ranges::refusal::answer_number;
 use ranges::space::Space;
 use shapes::box_range::{BoxPoint, BoxRange};
-use shapes::boxes::{Boxes, check_boxes};
+use shapes::boxes::Boxes;
+use shapes::lists::check_lists;
+use shapes::shape::Shape;
 use shapes::strip_range::{StripPoint, StripRange};
-use shapes::strips::{Strips, check_strips};
+use shapes::strips::Strips;
 
 // The largest coordinate, and one beyond.
 const MOST: i32 = 1000000;
@@ -36,140 +38,112 @@ const WHOLE_BOX: BoxRange = BoxRange {
     y1: MOST,
 };
 
-// Lists of equal points and equal boxes.
-struct BoxCount {
+// Lists of equal points and equal ranges.
+struct Count<R: Shape> {
     what: &'static str,
-    point: BoxPoint,
+    point: R::Point,
     points: usize,
-    boxes: usize,
+    ranges: usize,
 }
 
-static BOX_COUNTS: [BoxCount; 6] = [
-    BoxCount {
+// Lists given point by point and range by range.
+struct Case<R: Shape + 'static> {
+    what: &'static str,
+    points: &'static [R::Point],
+    ranges: &'static [R],
+}
+
+static BOX_COUNTS: [Count<BoxRange>; 6] = [
+    Count {
         what: "none",
         point: ORIGIN,
         points: 0,
-        boxes: 0,
+        ranges: 0,
     },
-    BoxCount {
+    Count {
         what: "4096 points",
         point: ORIGIN,
         points: 4096,
-        boxes: 1,
+        ranges: 1,
     },
-    BoxCount {
+    Count {
         what: "4097 points",
         point: ORIGIN,
         points: 4097,
-        boxes: 1,
+        ranges: 1,
     },
-    BoxCount {
+    Count {
         what: "16384 boxes",
         point: ORIGIN,
         points: 1,
-        boxes: 16384,
+        ranges: 16384,
     },
-    BoxCount {
+    Count {
         what: "16385 boxes",
         point: ORIGIN,
         points: 1,
-        boxes: 16385,
+        ranges: 16385,
     },
-    BoxCount {
+    Count {
         what: "4097 points too far",
         point: FAR,
         points: 4097,
-        boxes: 0,
+        ranges: 0,
     },
 ];
 
-// Counts at their limits and one beyond.
-pub fn box_counts(rt: &HostRuntime) -> anyhow::Result<()> {
-    for case in &BOX_COUNTS {
-        let points = vec![in rt.alloc(); case.point; case.points]?;
-        let boxes = vec![in rt.alloc(); WHOLE_BOX; case.boxes]?;
-        say_boxes(rt, case.what, &points, &boxes)?;
-    }
-    Ok(())
-}
-
-struct BoxLists {
-    what: &'static str,
-    points: &'static [BoxPoint],
-    boxes: &'static [BoxRange],
-}
-
-static BOX_LISTS: [BoxLists; 10] = [
-    BoxLists {
+static BOX_LISTS: [Case<BoxRange>; 10] = [
+    Case {
         what: "limits",
         points: &[CORNER],
-        boxes: &[WHOLE_BOX],
+        ranges: &[WHOLE_BOX],
     },
-    BoxLists {
+    Case {
         what: "x too large",
         points: &[BoxPoint { x: PAST, y: 0 }],
-        boxes: &[],
+        ranges: &[],
     },
-    BoxLists {
+    Case {
         what: "y too small",
         points: &[BoxPoint { x: 0, y: -PAST }],
-        boxes: &[],
+        ranges: &[],
     },
-    BoxLists {
+    Case {
         what: "x0 too small",
         points: &[CORNER],
-        boxes: &[BoxRange { x0: -PAST, ..SPOT }],
+        ranges: &[BoxRange { x0: -PAST, ..SPOT }],
     },
-    BoxLists {
+    Case {
         what: "y0 too small",
         points: &[CORNER],
-        boxes: &[BoxRange { y0: -PAST, ..SPOT }],
+        ranges: &[BoxRange { y0: -PAST, ..SPOT }],
     },
-    BoxLists {
+    Case {
         what: "x1 too large",
         points: &[CORNER],
-        boxes: &[BoxRange { x1: PAST, ..SPOT }],
+        ranges: &[BoxRange { x1: PAST, ..SPOT }],
     },
-    BoxLists {
+    Case {
         what: "y1 too large",
         points: &[CORNER],
-        boxes: &[BoxRange { y1: PAST, ..SPOT }],
+        ranges: &[BoxRange { y1: PAST, ..SPOT }],
     },
-    BoxLists {
+    Case {
         what: "x reversed",
         points: &[CORNER],
-        boxes: &[SPOT, X_REVERSED],
+        ranges: &[SPOT, X_REVERSED],
     },
-    BoxLists {
+    Case {
         what: "y reversed",
         points: &[CORNER],
-        boxes: &[Y_REVERSED],
+        ranges: &[Y_REVERSED],
     },
-    BoxLists {
+    Case {
         what: "reversed and too large",
         points: &[CORNER],
-        boxes: &[X_REVERSED, BoxRange { y1: PAST, ..SPOT }],
+        ranges: &[X_REVERSED, BoxRange { y1: PAST, ..SPOT }],
     },
 ];
-
-// Coordinates at their limits and one beyond, and ends reversed.
-pub fn box_coordinates(rt: &HostRuntime) -> anyhow::Result<()> {
-    for case in &BOX_LISTS {
-        say_boxes(rt, case.what, case.points, case.boxes)?;
-    }
-    Ok(())
-}
-
-fn say_boxes(
-    rt: &HostRuntime,
-    what: &str,
-    points: &[BoxPoint],
-    boxes: &[BoxRange],
-) -> anyhow::Result<()> {
-    let number = answer_number(&check_boxes(points, boxes));
-    println!(rt; "boxes, {what}: {number}")?;
-    Ok(())
-}
 
 const ZERO: StripPoint = StripPoint { x: 0 };
 
@@ -181,104 +155,113 @@ const PAST_STRIP: StripRange = StripRange { a: 0, b: PAST };
 
 const REVERSED_STRIP: StripRange = StripRange { a: 1, b: 0 };
 
-// Lists of equal points and equal strips.
-struct StripCount {
-    what: &'static str,
-    points: usize,
-    strips: usize,
-}
-
-static STRIP_COUNTS: [StripCount; 4] = [
-    StripCount {
+static STRIP_COUNTS: [Count<StripRange>; 4] = [
+    Count {
         what: "4096 points",
+        point: ZERO,
         points: 4096,
-        strips: 1,
+        ranges: 1,
     },
-    StripCount {
+    Count {
         what: "4097 points",
+        point: ZERO,
         points: 4097,
-        strips: 1,
+        ranges: 1,
     },
-    StripCount {
+    Count {
         what: "16384 strips",
+        point: ZERO,
         points: 1,
-        strips: 16384,
+        ranges: 16384,
     },
-    StripCount {
+    Count {
         what: "16385 strips",
+        point: ZERO,
         points: 1,
-        strips: 16385,
+        ranges: 16385,
     },
 ];
 
-pub fn strip_counts(rt: &HostRuntime) -> anyhow::Result<()> {
-    for case in &STRIP_COUNTS {
-        let points = vec![in rt.alloc(); ZERO; case.points]?;
-        let strips = vec![in rt.alloc(); WHOLE_STRIP; case.strips]?;
-        say_strips(rt, case.what, &points, &strips)?;
-    }
-    Ok(())
-}
-
-struct StripLists {
-    what: &'static str,
-    points: &'static [StripPoint],
-    strips: &'static [StripRange],
-}
-
-static STRIP_LISTS: [StripLists; 7] = [
-    StripLists {
+static STRIP_LISTS: [Case<StripRange>; 7] = [
+    Case {
         what: "x too large",
         points: &[StripPoint { x: PAST }],
-        strips: &[WHOLE_STRIP],
+        ranges: &[WHOLE_STRIP],
     },
-    StripLists {
+    Case {
         what: "x too small",
         points: &[StripPoint { x: -PAST }],
-        strips: &[WHOLE_STRIP],
+        ranges: &[WHOLE_STRIP],
     },
-    StripLists {
+    Case {
         what: "b too large",
         points: &[ZERO],
-        strips: &[PAST_STRIP],
+        ranges: &[PAST_STRIP],
     },
-    StripLists {
+    Case {
         what: "reversed",
         points: &[ZERO],
-        strips: &[WHOLE_STRIP, REVERSED_STRIP],
+        ranges: &[WHOLE_STRIP, REVERSED_STRIP],
     },
-    StripLists {
+    Case {
         what: "equal points",
         points: &[ZERO, ZERO, ONE],
-        strips: &[WHOLE_STRIP],
+        ranges: &[WHOLE_STRIP],
     },
-    StripLists {
+    Case {
         what: "descending points",
         points: &[ZERO, ONE, ZERO],
-        strips: &[WHOLE_STRIP],
+        ranges: &[WHOLE_STRIP],
     },
-    StripLists {
+    Case {
         what: "reversed and too large",
         points: &[ONE, ZERO],
-        strips: &[REVERSED_STRIP, PAST_STRIP],
+        ranges: &[REVERSED_STRIP, PAST_STRIP],
     },
 ];
 
-pub fn strip_coordinates(rt: &HostRuntime) -> anyhow::Result<()> {
-    for case in &STRIP_LISTS {
-        say_strips(rt, case.what, case.points, case.strips)?;
+pub fn list_checks(rt: &HostRuntime) -> anyhow::Result<()> {
+    counts(rt, "boxes", WHOLE_BOX, &BOX_COUNTS)?;
+    coordinates(rt, "boxes", &BOX_LISTS)?;
+    counts(rt, "strips", WHOLE_STRIP, &STRIP_COUNTS)?;
+    coordinates(rt, "strips", &STRIP_LISTS)
+}
+
+// Counts at their limits and one beyond.
+fn counts<R: Shape + Copy>(
+    rt: &HostRuntime,
+    kind: &str,
+    range: R,
+    cases: &[Count<R>],
+) -> anyhow::Result<()>
+where
+    R::Point: Copy,
+{
+    for case in cases {
+        let points = vec![in rt.alloc(); case.point; case.points]?;
+        let ranges = vec![in rt.alloc(); range; case.ranges]?;
+        say_lists(rt, kind, case.what, &points, &ranges)?;
     }
     Ok(())
 }
 
-fn say_strips(
+// Coordinates at their limits and one beyond, and ends reversed.
+fn coordinates<R: Shape>(rt: &HostRuntime, kind: &str, cases: &[Case<R>]) -> anyhow::Result<()> {
+    for case in cases {
+        say_lists(rt, kind, case.what, case.points, case.ranges)?;
+    }
+    Ok(())
+}
+
+fn say_lists<R: Shape>(
     rt: &HostRuntime,
+    kind: &str,
     what: &str,
-    points: &[StripPoint],
-    strips: &[StripRange],
+    points: &[R::Point],
+    ranges: &[R],
 ) -> anyhow::Result<()> {
-    let number = answer_number(&check_strips(points, strips));
-    println!(rt; "strips, {what}: {number}")?;
+    let number = answer_number(&check_lists(points, ranges));
+    println!(rt; "{kind}, {what}: {number}")?;
     Ok(())
 }
 

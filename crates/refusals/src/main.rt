@@ -9,10 +9,7 @@ fn main(rt: HostRuntime) -> anyhow::Result<()> {
 }
 
 fn run(rt: &HostRuntime) -> anyhow::Result<()> {
-    lists::box_counts(rt)?;
-    lists::box_coordinates(rt)?;
-    lists::strip_counts(rt)?;
-    lists::strip_coordinates(rt)?;
+    lists::list_checks(rt)?;
     lists::refused_spaces(rt)?;
     finding::finder_calls(rt)?;
     finding::verifier_calls(rt)
