@@ -140,13 +140,9 @@ fn next_guess(n: u16, k: u16) -> u16
 fn hit_points(book: &Book) -> u16
     ensures { result ≡ points_in (last_line (book_lines book.now)) }
 {
-    let last = book.line(book.len().saturating_sub(1));
-    match last {
-        Some(line) => match line.verdict {
-            Verdict::Hit(points) => points,
-            Verdict::Open | Verdict::RuledOut | Verdict::GivenUp => 0,
-        },
-        None => 0,
+    match book.lines().last().map(|line| line.verdict) {
+        Some(Verdict::Hit(points)) => points,
+        _ => 0,
     }
 }
 
