@@ -95,7 +95,7 @@ impl Book {
         self.lines().get(i).copied()
     }
 
-    // Adds a line at the end; a full book stays as it is.
+    // Adds a line at the end; a full book stays as it is. By index, as in `rewrite_last`.
     pub fn add(&mut self, line: GuessLine) -> bool
         ensures added { result ≡ nat_lt (length (book_lines self.old)) 24 }
         ensures value { self.new ≡ book_added self.old line }

@@ -102,7 +102,7 @@ fn replay_lines<S: Space>(
     Ok(())
 }
 
-// Whether a line is good: its range exists and is light.
+// Whether a line is good: its range exists and is light. Its weights are a plain slice, since the next line doubles them.
 fn is_good<S: Space>(s: &S, k: u16, weights: &[u64], j: RangeNumber) -> bool
     requires long { length weights.now ≡ (S.Space.meaning s.now).points }
     requires small { total weights.now ≤ 2 ^ 49 }
