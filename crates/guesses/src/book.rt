@@ -47,7 +47,7 @@ impl fmt::Display for GuessLine {
     }
 }
 
-// The project's scope fixes this form, 24 places and how many of them are used, and that a line changes through `&mut self`.
+// A book needs no heap: 24 places and how many of them are used, and a line changes through `&mut self`.
 #[derive(Clone, Copy)]
 pub struct Book {
     lines: [GuessLine; 24],

@@ -1,5 +1,4 @@
 ghost use Rattle.std.specs.Prelude.{◌≡◌, ◌+◌, ◌^◌, ◌<◌, ◌≤◌, true, length, Ok};
-ghost use Rattle.ranges.specs.Spaces.{Within};
 ghost use Rattle.ranges.specs.Weights.{total, range_weight};
 ghost use Rattle.ledgers.specs.Doublings.{doubled_points};
 ghost use Rattle.nets.specs.Finders.{find_check};
@@ -31,7 +30,6 @@ pub(crate) fn check_round<S: Space>(
     requires few { FewGuess state.now }
     requires small { is_guessing state.now.phase ≡ true → (guess_of state.now.phase).total ≤ 2 ^ 49 }
     ensures check { result ≡ or_guess (round_check (S.Space.meaning s.now) state.now weights.now lengths.marks lengths.ledger lengths.scratch need) (guess_of state.now.phase) }
-    ensures within { Within (S.Space.meaning s.now) }
 {
     let n = s.points();
     if let Phase::Blank = state.phase {
