@@ -1,4 +1,5 @@
 pub mod Rings
+pub mod RingLimits
 pub mod Touched
 pub mod Greatest
 pub mod HighestMissed

@@ -1,5 +1,6 @@
 ghost use Rattle.std.specs.Prelude.{◌≡◌, ◌<◌, ◌≤◌, MatchResult};
 ghost use Rattle.ranges.specs.declared.refusal.Refusal.TheVariants.{CountAboveLimit};
+ghost use Rattle.foreign.specs.RingLimits.{ring_within};
 ghost use Rattle.foreign.specs.Rings.{ring_space, steps_on};
 
 use ranges::number::{PointNumber, RangeNumber};
@@ -35,6 +36,8 @@ impl Ring {
 
 impl Space for Ring {
     ghost meaning = { λ ring. ring_space ring.points ring.reach };
+
+    ghost within = { λ ring. ring_within ring.points ring.reach ring.few };
 
     fn points(&self) -> u16 {
         self.points

@@ -15,7 +15,7 @@ use ranges::weight::Weights;
 // A flag that is up: the range is heavy and not yet hit.
 const UNHIT: u8 = 1;
 
-// During a call a point's byte is its gain up to 253; this one says that the gain is not known or larger.
+// During a call a point's byte is its gain up to 253; this one says that the gain is not known or larger. Bytes and no enum, since the caller's marks are all the memory there is.
 const UNKNOWN: u8 = 254;
 
 // During a call, the byte of a marked point.
@@ -67,7 +67,7 @@ fn digit_count(m: u16) -> u32
     16 - m.leading_zeros()
 }
 
-// Marks the net; answers how many points it has.
+// Marks the net; answers how many points it has. Flags and marks stay two slices with their lengths as clauses: a struct of both loans needs a clause for each loan, which is as many.
 fn mark_net<S: Space>(weights: &Weights<'_, S>, k: u16, marks: &mut [u8], flags: &mut [u8]) -> u16
     requires asked { Asked (S.Space.meaning weights.now.space.now) k weights.now.each.now }
     requires wide { length flags.old ≡ (S.Space.meaning weights.now.space.now).ranges }

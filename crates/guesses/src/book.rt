@@ -47,7 +47,7 @@ impl fmt::Display for GuessLine {
     }
 }
 
-// The project's scope fixes this form, 24 places and how many of them are used, and that a line changes through `&mut self`.
+// A book needs no heap: 24 places and how many of them are used, and a line changes through `&mut self`.
 #[derive(Clone, Copy)]
 pub struct Book {
     lines: [GuessLine; 24],
@@ -95,7 +95,7 @@ impl Book {
         self.lines().get(i).copied()
     }
 
-    // Adds a line at the end; a full book stays as it is.
+    // Adds a line at the end; a full book stays as it is. By index, as in `rewrite_last`.
     pub fn add(&mut self, line: GuessLine) -> bool
         ensures added { result ≡ nat_lt (length (book_lines self.old)) 24 }
         ensures value { self.new ≡ book_added self.old line }

@@ -16,6 +16,7 @@ pub fn double_range<S: Space>(s: &S, j: RangeNumber, weights: &mut [u64])
 pub fn double_points<P: PointSet>(n: u16, set: &P, weights: &mut [u64])
     ensures { weights.new ≡ capped_points n (P.PointSet.members set.now) weights.old }
 {
+    // by number, since the set is asked by number and the weights may be fewer or more
     for p in 0..n {
         double_member(set, PointNumber(p), weights);
     }

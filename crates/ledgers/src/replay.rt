@@ -1,6 +1,5 @@
 ghost use Rattle.std.specs.Prelude.{◌≡◌, ◌^◌, ◌<◌, ◌≤◌, length, Some, Ok};
 ghost use Rattle.ranges.specs.Weights.{total};
-ghost use Rattle.ranges.specs.Spaces.{Within};
 ghost use Rattle.guesses.specs.Limits.{limit_of};
 ghost use Rattle.ledgers.specs.Doublings.{ones, good, NeedsMore};
 ghost use Rattle.ledgers.specs.Replays.{replayed, replayed_weights, replay_check, replay_answer, replay_weights, replay_reason};
@@ -62,7 +61,6 @@ pub fn replay<S: Space>(
 // The checks of replay, in number order.
 fn check_replay<S: Space>(s: &S, k: u16, lines: usize, weights: usize) -> Result<(), Refusal>
     ensures check { result ≡ replay_check (S.Space.meaning s.now) k lines weights }
-    ensures within { Within (S.Space.meaning s.now) }
 {
     let n = s.points();
     if weights != n as usize {
@@ -84,7 +82,6 @@ fn replay_lines<S: Space>(
     ledger: &[RangeNumber],
     weights: &mut [u64],
 ) -> Result<(), ReplayError>
-    requires within { Within (S.Space.meaning s.now) }
     requires some { 0 < k }
     requires few { k ≤ (S.Space.meaning s.now).points }
     requires lines { length ledger.now ≡ limit_of (S.Space.meaning s.now).points k }
@@ -102,7 +99,7 @@ fn replay_lines<S: Space>(
     Ok(())
 }
 
-// Whether a line is good: its range exists and is light.
+// Whether a line is good: its range exists and is light. Its weights are a plain slice, since the next line doubles them.
 fn is_good<S: Space>(s: &S, k: u16, weights: &[u64], j: RangeNumber) -> bool
     requires long { length weights.now ≡ (S.Space.meaning s.now).points }
     requires small { total weights.now ≤ 2 ^ 49 }

@@ -1,6 +1,5 @@
 ghost use Rattle.std.specs.Prelude.{◌≡◌, length, IfOk};
 ghost use Rattle.ranges.specs.Refusals.{verdict_of};
-ghost use Rattle.ranges.specs.Spaces.{Within};
 ghost use Rattle.nets.specs.Finders.{FinderMeaning, find_check, FoundMarks, found_scratch, FinderSound};
 
 use ranges::refusal::Refusal;
@@ -45,7 +44,6 @@ pub fn check_find<'a, S: Space>(
 ) -> Result<Weights<'a, S>, Refusal>
     ensures check { verdict_of result ≡ find_check (S.Space.meaning s.now) k weights.now marks scratch need }
     ensures given { IfOk result (λ w. (w.each.now ≡ weights.now) × (S.Space.meaning w.space.now ≡ S.Space.meaning s.now)) }
-    ensures within { Within (S.Space.meaning s.now) }
 {
     let n = s.points();
     if weights.len() != n as usize || marks != n as usize {

@@ -1,6 +1,5 @@
 ghost use Rattle.std.specs.Prelude.{◌≡◌, length, IfOk};
 ghost use Rattle.ranges.specs.Refusals.{verdict_of};
-ghost use Rattle.ranges.specs.Spaces.{Within};
 ghost use Rattle.nets.specs.Verifiers.{VerifierMeaning, judge_check, Picked, VerifierSound, lowest_verifier};
 ghost use Rattle.nets.specs.Lowest.{lowest_judged};
 
@@ -29,7 +28,6 @@ pub fn check_judge<'a, S: Space>(
 ) -> Result<Weights<'a, S>, Refusal>
     ensures check { verdict_of result ≡ judge_check (S.Space.meaning s.now) marks weights.now }
     ensures given { IfOk result (λ w. (w.each.now ≡ weights.now) × (S.Space.meaning w.space.now ≡ S.Space.meaning s.now)) }
-    ensures within { Within (S.Space.meaning s.now) }
 {
     if marks != s.points() as usize {
         return Err(Refusal::WrongLength);

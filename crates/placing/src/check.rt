@@ -1,6 +1,5 @@
 // The checks of place.
 ghost use Rattle.std.specs.Prelude.{◌≡◌, ◌≤◌};
-ghost use Rattle.ranges.specs.Spaces.{Within};
 ghost use Rattle.placing.specs.Placements.{place_check};
 
 use ranges::hit::{AllPoints, lowest_missed};
@@ -16,7 +15,6 @@ pub(crate) fn check_place<S: Space>(
     sheet: usize,
 ) -> Result<(), Refusal>
     ensures check { result ≡ place_check (S.Space.meaning s.now) need lengths.weights lengths.marks lengths.ledger lengths.scratch sheet }
-    ensures within { Within (S.Space.meaning s.now) }
 {
     let n = s.points() as usize;
     if let Some(j) = lowest_missed(s, &AllPoints) {

@@ -18,7 +18,7 @@ use runs::buffers::Buffers;
 use runs::run::Run;
 use sheets::writer::SheetWriter;
 
-// Puts the full ledger of guess k into the sheet.
+// Puts the full ledger of guess k into the sheet; the bounds of k are clauses, since the run keeps it as a plain number.
 fn add_ledger(writer: &mut SheetWriter, sheet: &mut [u8], n: u16, k: u16, ledger: &[RangeNumber])
     requires some { 0 < k }
     requires within { k ≤ n }

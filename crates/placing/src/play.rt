@@ -1,6 +1,5 @@
 // A guess played to its verdict.
 ghost use Rattle.std.specs.Prelude.{◌≡◌, false};
-ghost use Rattle.ranges.specs.Spaces.{Within};
 ghost use Rattle.runs.specs.Runs.{is_guessing};
 ghost use Rattle.runs.specs.Desks.{desk, Lent};
 ghost use Rattle.placing.specs.Playing.{Fitted, Courses, Counted};
@@ -26,7 +25,6 @@ pub(crate) fn play_rounds<S: Space, F: Finder<S>, V: Verifier<S>>(
     ensures lent { Lent buffers.old buffers.new }
     ensures counted { Counted (desk run.new.state buffers.new) result }
 {
-    let _n = s.points();
     let mut rounds = 0;
     while run.is_guessing() {
         run.round(s, f, v, buffers).unwrap();

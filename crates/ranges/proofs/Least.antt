@@ -1,10 +1,7 @@
 -- The laws of the number with the least value.
-use Rattle.std.proofs.Common.{◌≡◌, ℕ, zero, suc, ◌+◌, ◌<◌, ◌≤◌, Bool, true, false, cond, ltb, ◌⊎◌, Some, None, Option, sym, refl, subst, inl, inr, eq-or-lt_of_le, add-one, arith}
+use Rattle.std.proofs.Common.{◌≡◌, ℕ, zero, suc, ◌<◌, ◌≤◌, Bool, true, false, ltb, ◌⊎◌, Some, None, Option, sym, subst, inl, inr, eq-or-lt_of_le, arith}
 use Rattle.std.proofs.lemmas.Bool.{both_ways, cases_Bool, ltb-true, ltb-false, cond-true, cond-false}
 use Rattle.ranges.specs.Below.{lower_of, least_by}
-
-pub least_by_more : (t : ℕ → Bool) (w : ℕ → ℕ) (n : ℕ) → least_by t w (n + 1) ≡ cond (t n) (lower_of w (least_by t w n) n) (least_by t w n)
-least_by_more t w n = rw add-one refl
 
 -- what an answer over the numbers below n says
 abbrev Least : (ℕ → Bool) → (ℕ → ℕ) → ℕ → Option ℕ → Type 0

@@ -10,9 +10,6 @@ any_none t = refl
 any_suc : (t : ℕ → Bool) (n : ℕ) → any_below t (suc n) ≡ (t n || any_below t n)
 any_suc t n = refl
 
-pub any_more : (t : ℕ → Bool) (n : ℕ) → any_below t (n + 1) ≡ (t n || any_below t n)
-any_more t n = rw add-one (any_suc t n)
-
 -- the test says whether there is one
 pub any_decides : (t : ℕ → Bool) (n : ℕ) → Decides (any_below t n) ((i : ℕ) × (i < n) × (t i ≡ true))
 any_decides t n = Decides-below_or t (λ i. t i ≡ true) (any_below t) (λ i. ((λ e. e), (λ e. e))) (any_none t) (any_suc t) n

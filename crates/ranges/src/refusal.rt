@@ -29,6 +29,7 @@ pub enum Refusal {
 }
 
 impl Refusal {
+    // The number that the rules know a refusal by; a match, since a case with a range in it has no discriminant of its own.
     pub fn number(&self) -> u8
         ensures { result ≡ number self.now }
     {

@@ -4,20 +4,20 @@ ghost use Rattle.ranges.specs.Spaces.{RangeSpace, Within, Ordered};
 use crate::number::{PointNumber, RangeNumber};
 
 // A space: its points, its ranges, and which range holds which point.
-// Both counts promise what every space keeps: its limits, and that nothing beyond a count is held.
 pub trait Space {
     ghost meaning: { Self → RangeSpace };
 
     fn points(&self) -> u16
-        ensures value { result ≡ (meaning self.now).points }
-        ensures within { Within (meaning self.now) };
+        ensures { result ≡ (meaning self.now).points };
 
     fn ranges(&self) -> u16
-        ensures value { result ≡ (meaning self.now).ranges }
-        ensures within { Within (meaning self.now) };
+        ensures { result ≡ (meaning self.now).ranges };
 
     fn holds(&self, j: RangeNumber, p: PointNumber) -> bool
         ensures { result ≡ (meaning self.now).holds j.0 p.0 };
+
+    // A space keeps its limits, and holds nothing beyond a count.
+    ghost within: { (s : Self) → Within (meaning s) };
 }
 
 // A space whose every range is a stretch of consecutive points.
@@ -27,10 +27,11 @@ pub trait OrderedSpace: Space {
     ghost end_of: { Self → ℕ → ℕ };
 
     fn first(&self, j: RangeNumber) -> u16
-        ensures value { result ≡ first_of self.now j.0 }
-        ensures order { Ordered (Self.Space.meaning self.now) (first_of self.now) (end_of self.now) };
+        ensures { result ≡ first_of self.now j.0 };
 
     fn end(&self, j: RangeNumber) -> u16
-        ensures value { result ≡ end_of self.now j.0 }
-        ensures order { Ordered (Self.Space.meaning self.now) (first_of self.now) (end_of self.now) };
+        ensures { result ≡ end_of self.now j.0 };
+
+    // Every range is the stretch from its first point up to its end.
+    ghost ordered: { (s : Self) → Ordered (Self.Space.meaning s) (first_of s) (end_of s) };
 }

@@ -1,6 +1,5 @@
 ghost use Rattle.std.specs.Prelude.{◌≡◌, ◌^◌, ◌≤◌, length, IfOk};
 ghost use Rattle.ranges.specs.Refusals.{verdict_of};
-ghost use Rattle.ranges.specs.Spaces.{Within};
 ghost use Rattle.ranges.specs.Weights.{weight_at, total, range_weight, outweighs, heavy, capped, weights_check};
 
 use crate::number::{PointNumber, RangeNumber};
@@ -47,7 +46,6 @@ pub struct Weights<'a, S: Space> {
     space: &'a S,
     each: &'a [u64],
     whole: u64,
-    ghost within: { Within (S.Space.meaning space.now) },
     ghost long: { length each.now ≡ (S.Space.meaning space.now).points },
     ghost added: { whole ≡ total each.now },
     ghost small: { whole ≤ 2 ^ 49 },

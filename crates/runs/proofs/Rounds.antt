@@ -19,10 +19,6 @@ use Rattle.runs.specs.declared.state.State.{State}
 use Rattle.runs.specs.Runs.{is_blank, is_guessing, guess_of, other_space, round_check, or_guess, miss_state, rules_out, Ready, SomeGuess, FewGuess, FewPoints, Unfinished, GrownTotal}
 use Rattle.runs.proofs.Openings.{Kept}
 
-pub or_guess_err : (x : Result Unit Refusal) (g : OpenGuess) (e : Refusal) → Err e ≡ or_guess x g → Err e ≡ x
-or_guess_err (Ok u) g e is = let z : ◌≡◌ {A = ℕ} 0 1 = cc in absurd (omega arith)
-or_guess_err (Err f) g e is = cc
-
 pub or_guess_ok : (x : Result Unit Refusal) (g h : OpenGuess) → Ok h ≡ or_guess x g → (Ok tt ≡ x) × (h ≡ g)
 or_guess_ok (Ok u) g h is = (refl, (cc))
 or_guess_ok (Err f) g h is = let z : ◌≡◌ {A = ℕ} 0 1 = cc in absurd (omega arith)

@@ -1,5 +1,4 @@
 ghost use Rattle.std.specs.Prelude.{◌≡◌, ◌+◌, ◌^◌, ◌<◌, is_ok, if◌then◌else◌};
-ghost use Rattle.ranges.specs.Spaces.{Within};
 ghost use Rattle.runs.specs.Desks.{desk, Lent};
 ghost use Rattle.runs.specs.Histories.{Performed, AllPerformed, AllPerformedClearing, Clears, request_of, requests};
 
@@ -36,7 +35,6 @@ impl Run {
         ensures step { Performed (S.Space.meaning s.now) (request_of F.Finder.promise V.Verifier.promise call.now) result (desk self.old.state buffers.old) (desk self.new.state buffers.new) }
         ensures clearing { Clears (S.Space.meaning s.now) (request_of F.Finder.promise V.Verifier.promise call.now) result (desk self.old.state buffers.old) (desk self.new.state buffers.new) }
         ensures lent { Lent buffers.old buffers.new }
-        ensures within { Within (S.Space.meaning s.now) }
     {
         self.perform_call(s, call, buffers)
     }
@@ -52,8 +50,6 @@ impl Run {
         ensures clearing { AllPerformedClearing (S.Space.meaning s.now) (requests F.Finder.promise V.Verifier.promise calls.now) (desk self.old.state buffers.old) (desk self.new.state buffers.new) result }
         ensures lent { Lent buffers.old buffers.new }
     {
-        // one question brings what every space keeps
-        let _n = s.points();
         let mut accepted = 0;
         for call in calls {
             let answer = self.perform(s, call, buffers);
@@ -72,10 +68,7 @@ impl Run {
         ensures step { Performed (S.Space.meaning s.now) (request_of F.Finder.promise V.Verifier.promise call.now) result (desk self.old.state buffers.old) (desk self.new.state buffers.new) }
         ensures clearing { Clears (S.Space.meaning s.now) (request_of F.Finder.promise V.Verifier.promise call.now) result (desk self.old.state buffers.old) (desk self.new.state buffers.new) }
         ensures lent { Lent buffers.old buffers.new }
-        ensures within { Within (S.Space.meaning s.now) }
     {
-        // one question brings what every space keeps
-        let _n = s.points();
         match call {
             Call::Begin => self.begin(s),
             Call::Open(k) => {

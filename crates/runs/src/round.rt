@@ -1,5 +1,4 @@
 ghost use Rattle.std.specs.Prelude.{◌≡◌, ◌+◌, ◌^◌, ◌<◌, ◌≤◌, true, length, Ok};
-ghost use Rattle.ranges.specs.Spaces.{Within};
 ghost use Rattle.ranges.specs.Weights.{total, range_weight};
 ghost use Rattle.ledgers.specs.Doublings.{doubled_points};
 ghost use Rattle.nets.specs.Finders.{find_check};
@@ -31,7 +30,6 @@ pub(crate) fn check_round<S: Space>(
     requires few { FewGuess state.now }
     requires small { is_guessing state.now.phase ≡ true → (guess_of state.now.phase).total ≤ 2 ^ 49 }
     ensures check { result ≡ or_guess (round_check (S.Space.meaning s.now) state.now weights.now lengths.marks lengths.ledger lengths.scratch need) (guess_of state.now.phase) }
-    ensures within { Within (S.Space.meaning s.now) }
 {
     let n = s.points();
     if let Phase::Blank = state.phase {
@@ -50,7 +48,7 @@ pub(crate) fn check_round<S: Space>(
     Ok(guess)
 }
 
-// The checks of a round that concern the open guess.
+// The checks of a round that concern the open guess; its bounds stay clauses, since a state without a guess has no value that keeps them.
 fn check_buffers(
     n: u16,
     guess: OpenGuess,
@@ -111,7 +109,7 @@ pub(crate) fn closed(state: &State, k: u16, doublings: u16, verdict: Verdict) ->
     next
 }
 
-// The state after a range of this weight was missed and doubled.
+// The state after a range of this weight was missed and doubled; the bounds of its guess are clauses, as in `check_buffers`.
 pub(crate) fn missed(state: &State, guess: OpenGuess, weight: u64) -> State
     requires some { 0 < guess.k }
     requires few { guess.k ≤ state.now.n }
@@ -136,7 +134,7 @@ pub(crate) fn missed(state: &State, guess: OpenGuess, weight: u64) -> State
     next
 }
 
-// The weight of the missed range as it stands.
+// The weight of the missed range as it stands; of a plain slice, since checked `Weights` would add up again what the round has added up.
 pub(crate) fn missed_weight<S: Space>(s: &S, weights: &[u64], j: RangeNumber) -> u64
     requires long { length weights.now ≡ (S.Space.meaning s.now).points }
     requires small { total weights.now ≤ 2 ^ 49 }
@@ -146,7 +144,7 @@ pub(crate) fn missed_weight<S: Space>(s: &S, weights: &[u64], j: RangeNumber) ->
     range_weight(s, weights, j)
 }
 
-// Doubles the weight of each point of the set.
+// Doubles the weight of each point of the set; of a plain slice, since `Weights` only reads.
 pub(crate) fn double_set<S: Space, P: PointSet>(s: &S, set: &P, weights: &mut [u64])
     requires long { length weights.old ≡ (S.Space.meaning s.now).points }
     requires small { total weights.old ≤ 2 ^ 49 }

@@ -6,7 +6,6 @@ ghost use Rattle.runs.specs.Desks.{desk, Lent};
 ghost use Rattle.ranges.specs.Refusals.{verdict_of};
 ghost use Rattle.runs.specs.Histories.{Event, History, Lawful, RoundDone};
 ghost use Rattle.ranges.specs.Weights.{chosen};
-ghost use Rattle.ranges.specs.Spaces.{Within};
 
 use crate::buffers::{Buffers, Lengths};
 use crate::round::{check_round, closed, double_set, missed, missed_weight, play};
@@ -157,7 +156,6 @@ impl Run {
         buffers: &mut Buffers<'_>,
     ) -> Result<Option<RangeNumber>, Refusal>
         ensures check { verdict_of result ≡ round_check (S.Space.meaning s.now) self.old.state buffers.old.weights.now (length buffers.old.marks.now) (length buffers.old.ledger.now) (length buffers.old.scratch.now) ((F.Finder.promise f.now).need (S.Space.meaning s.now).points (S.Space.meaning s.now).ranges) }
-        ensures within { Within (S.Space.meaning s.now) }
         ensures net { Played (F.Finder.promise f.now) (V.Verifier.promise v.now) (S.Space.meaning s.now) (guess_of self.old.state.phase).k buffers.old.weights.now result buffers.old.marks.now buffers.new.marks.now }
         ensures state { self.new.state ≡ after result (round_state (S.Space.meaning s.now) self.old.state buffers.old.weights.now (chosen buffers.new.marks.now)) self.old.state }
         ensures weights { buffers.new.weights.now ≡ after result (round_weights (S.Space.meaning s.now) buffers.old.weights.now) buffers.old.weights.now }
@@ -196,7 +194,6 @@ impl Run {
         lengths: Lengths,
     ) -> Result<OpenGuess, Refusal>
         ensures check { result ≡ or_guess (round_check (S.Space.meaning s.now) self.now.state weights.now lengths.marks lengths.ledger lengths.scratch ((F.Finder.promise f.now).need (S.Space.meaning s.now).points (S.Space.meaning s.now).ranges)) (guess_of self.now.state.phase) }
-        ensures within { Within (S.Space.meaning s.now) }
         ensures ready { Ready (S.Space.meaning s.now) self.now.state weights.now lengths.marks lengths.ledger lengths.scratch ((F.Finder.promise f.now).need (S.Space.meaning s.now).points (S.Space.meaning s.now).ranges) result }
     {
         let need = f.need(s.points(), s.ranges());
@@ -224,7 +221,6 @@ fn check_open<S: Space>(
     ledger: usize,
 ) -> Result<(), Refusal>
     ensures check { result ≡ open_check (S.Space.meaning s.now) state.now k weights ledger }
-    ensures within { Within (S.Space.meaning s.now) }
 {
     let n = s.points();
     let guessing = match state.phase {

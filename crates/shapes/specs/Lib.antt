@@ -1,4 +1,7 @@
-pub mod Coordinates
-pub mod Lists
 pub mod Boxes
+pub mod Coordinates
+pub mod Fronts
+pub mod Limits
+pub mod Lists
+pub mod Orders
 pub mod Strips

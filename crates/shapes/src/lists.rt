@@ -1,5 +1,6 @@
 ghost use Rattle.std.specs.Prelude.{◌≡◌, ◌≤◌, false, ◌||◌, length};
 ghost use Rattle.std.specs.List.{list_any};
+ghost use Rattle.shapes.specs.Limits.{lists_within};
 ghost use Rattle.shapes.specs.Lists.{lists_check, lists_space, lists_meaning};
 ghost use Rattle.shapes.specs.declared.lists.TheConstants.{MOST_POINTS, MOST_RANGES};
 
@@ -81,6 +82,8 @@ impl<'a, R: Shape> Lists<'a, R> {
 
 impl<'a, R: Shape> Space for Lists<'a, R> {
     ghost meaning = { λ s. lists_space R.shape s.points.now s.ranges.now };
+
+    ghost within = { λ s. lists_within R.shape s.points.now s.ranges.now s.few_points s.few_ranges };
 
     fn points(&self) -> u16 {
         self.points.len() as u16

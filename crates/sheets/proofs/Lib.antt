@@ -1,4 +1,3 @@
-pub mod Books
 pub mod Stores
 pub mod Points
 pub mod Written

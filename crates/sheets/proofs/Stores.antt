@@ -2,6 +2,7 @@
 use Rattle.std.proofs.Common.{◌≡◌, ℕ, ◌+◌, ◌*◌, ◌≤◌, List, [], ◌∷◌, ◌++◌, length, take, ◌-◌, set, sym, refl, ap, ◌∙◌, mul-suc, add-one, arith, length-append}
 use borrow.Rule.Slice.PartMut.{put_mid, Post-is}
 use lib.Seq.{sets, sets-eq}
+use Rattle.std.proofs.lemmas.Grind.{flat_map-append}
 use Rattle.std.specs.List.{flat_map}
 use Rattle.std.proofs.lemmas.List.{append_assoc}
 use Rattle.sheets.specs.Bytes.{bytes16, numbers_bytes, put, stored}
@@ -33,13 +34,9 @@ length_joined f w each [] = omega arith
 length_joined f w each (x ∷ xs) =
     omega (arith, length-append (f x) (flat_map f xs), each x, length_joined f w each xs, mul-suc w (length xs))
 
-pub joined_append : {X : Type 0} (f : X → List ℕ) (xs ys : List X) → flat_map f (xs ++ ys) ≡ flat_map f xs ++ flat_map f ys
-joined_append f [] ys = refl
-joined_append f (x ∷ xs) ys = ap (λ bs. f x ++ bs) (joined_append f xs ys) ∙ sym (append_assoc (f x) (flat_map f xs) (flat_map f ys))
-
 -- numbers, and behind them more
 pub numbers_more : (xs ys s : List ℕ) (at : ℕ) → stored s at (numbers_bytes (xs ++ ys)) ≡ stored (stored s at (numbers_bytes xs)) (at + 2 * length xs) (numbers_bytes ys)
 numbers_more xs ys s at =
-    ap (stored s at) (joined_append bytes16 xs ys)
+    ap (stored s at) (flat_map-append bytes16 xs ys)
     ∙ stored_append (numbers_bytes xs) (numbers_bytes ys) s at
     ∙ ap (λ n. stored (stored s at (numbers_bytes xs)) (at + n) (numbers_bytes ys)) (length_joined bytes16 2 (λ x. refl) xs)

@@ -22,6 +22,7 @@ fn store_lines(sheet: &mut [u8], at: usize, lines: &[RangeNumber])
     ensures bytes { sheet.new ≡ stored sheet.old at (lines_bytes lines.now) }
     ensures fit { LinesFit lines.now (length lines.now) }
 {
+    // by place, since what is written through a zip with `chunks_exact_mut` stays unknown to a proof
     for (i, line) in lines.iter().enumerate() {
         store(sheet, at + 2 * i, &range_bytes(*line));
     }
@@ -44,6 +45,7 @@ pub(crate) fn store_book(sheet: &mut [u8], at: usize, book: &Book)
     ensures bytes { sheet.new ≡ stored sheet.old at (book_bytes (book_lines book.now)) }
     ensures fit { BookFits (book_lines book.now) (length (book_lines book.now)) }
 {
+    // by place, as in `store_lines`
     for (i, line) in book.lines().iter().enumerate() {
         store(sheet, at + 8 * i, &line_bytes(*line));
     }

@@ -5,7 +5,7 @@ ghost use Rattle.sheets.specs.Trailers.{trailer_bytes, trailer_at};
 
 use crate::bytes::{read, store};
 
-// The place by which the format says that there is no ledger; the writer's state keeps it, a plain number by the project's scope.
+// The place by which the format says that there is no ledger; a plain number, since the writer's state keeps it as the format writes it.
 pub const NO_LEDGER: u32 = 0xffff_ffff;
 
 #[derive(Clone, Copy)]

@@ -10,7 +10,7 @@ overflow_add-count g c =
     let w = c.args.weights.now in
     let t = touched (g.S.Space.meaning w.space.now) c.args.k w.each.now in
     let one = c.from-count.ensures ∙ byte_bit c.is_touched-touched.result ∙ ap (λ b. cond b 1 0) c.is_touched-touched.ensures in
-    omega (arith, w.within.few_points, c.requires, c.loop-p.invariant.0, one, sum_more (λ p. cond (t p) 1 0) c.loop-p.p, count_le t (c.loop-p.p + 1))
+    omega (arith, (g.met.S.Space.within w.space.now).few_points, c.requires, c.loop-p.invariant.0, one, sum_more (λ p. cond (t p) 1 0) c.loop-p.p, count_le t (c.loop-p.p + 1))
 
 pub loop-p-preserved : goal.loop-p-preserved
 loop-p-preserved g c =

@@ -10,7 +10,7 @@ pub overflow_add-count : goal.overflow_add-count
 overflow_add-count g c =
     let t = heavy (g.S.Space.meaning c.args.weights.now.space.now) c.args.k c.args.weights.now.each.now in
     let here = c.from-count.ensures ∙ byte_bit c.is_heavy-heavy.result ∙ ap bit c.is_heavy-heavy.ensures in
-    omega (arith, here, sum_more (λ j. cond (t j) 1 0) c.loop-j.j, count_le t (c.loop-j.j + 1), c.args.weights.now.within.few_ranges, c.requires, c.loop-j.invariant.1)
+    omega (arith, here, sum_more (λ j. cond (t j) 1 0) c.loop-j.j, count_le t (c.loop-j.j + 1), (g.met.S.Space.within c.args.weights.now.space.now).few_ranges, c.requires, c.loop-j.invariant.1)
 
 pub loop-j-preserved : goal.loop-j-preserved
 loop-j-preserved g c =

@@ -14,7 +14,7 @@ loop-i-init g c =
 pub is_good-requires : goal.is_good-requires
 is_good-requires g c = record {
   long = c.loop-i.auto.weights ∙ ap length c.requires.weights ∙ ones_long (g.S.Space.meaning c.args.s.now).points;
-  small = grown_small (g.S.Space.meaning c.args.s.now) c.args.k c.loop-i.i (length c.args.ledger.now) c.loop-i.weights c.requires.within c.requires.some c.requires.few (le_of_eq c.requires.lines) c.loop-i.auto.i-end c.loop-i.invariant.2;
+  small = grown_small (g.S.Space.meaning c.args.s.now) c.args.k c.loop-i.i (length c.args.ledger.now) c.loop-i.weights (g.met.S.Space.within c.args.s.now) c.requires.some c.requires.few (le_of_eq c.requires.lines) c.loop-i.auto.i-end c.loop-i.invariant.2;
 }
 
 pub returns-then-not-is_good : goal.returns-then-not-is_good
@@ -27,7 +27,7 @@ loop-i-preserved g c =
     let line = (get_or c.args.ledger.now c.loop-i.i no_range).0 in
     let good-line = sym c.if-not-is_good.ensures in
     let long = c.loop-i.auto.weights ∙ ap length c.requires.weights ∙ ones_long (g.S.Space.meaning c.args.s.now).points in
-    let small = grown_small (g.S.Space.meaning c.args.s.now) c.args.k c.loop-i.i (length c.args.ledger.now) c.loop-i.weights c.requires.within c.requires.some c.requires.few (le_of_eq c.requires.lines) c.loop-i.auto.i-end c.loop-i.invariant.2 in
+    let small = grown_small (g.S.Space.meaning c.args.s.now) c.args.k c.loop-i.i (length c.args.ledger.now) c.loop-i.weights (g.met.S.Space.within c.args.s.now) c.requires.some c.requires.few (le_of_eq c.requires.lines) c.loop-i.auto.i-end c.loop-i.invariant.2 in
     let next : c.double_range.new.weights ≡ doubled (g.S.Space.meaning c.args.s.now) line c.loop-i.weights = c.double_range.ensures ∙ uncapped (g.S.Space.meaning c.args.s.now) line c.loop-i.weights small in
     let on = line_good (g.S.Space.meaning c.args.s.now) c.args.k c.loop-i.i c.loop-i.weights c.args.ledger.now no_range c.loop-i-test.true good-line in (
       ap (λ ws. replayed (g.S.Space.meaning c.args.s.now) c.args.k (c.loop-i.i + 1) ws (drop (c.loop-i.i + 1) c.args.ledger.now)) next ∙ sym on.0 ∙ c.loop-i.invariant.0,
@@ -41,6 +41,6 @@ returns g c =
     record {
       answer = answer;
       weights = sym (at_drop_all (replayed_weights (g.S.Space.meaning c.args.s.now) c.args.k c.loop-i.weights) c.args.ledger.now c.loop-i.i c.loop-i-test.false) ∙ c.loop-i.invariant.1;
-      law = λ _. accepted_more (g.S.Space.meaning c.args.s.now) c.args.k c.args.ledger.now c.requires.within c.requires.some c.requires.few c.requires.lines
+      law = λ _. accepted_more (g.S.Space.meaning c.args.s.now) c.args.k c.args.ledger.now (g.met.S.Space.within c.args.s.now) c.requires.some c.requires.few c.requires.lines
           (sym (ap (λ ws. replayed (g.S.Space.meaning c.args.s.now) c.args.k 0 ws c.args.ledger.now) c.requires.weights) ∙ sym answer);
     }

@@ -19,7 +19,7 @@ overflow_add-sum g c =
 pub overflow_add-count : goal.overflow_add-count
 overflow_add-count g c =
     let w = c.args.weights.now in
-    omega (arith, count_le (full c.args.k w.each.now) c.loop-p.p, c.loop-p.invariant.1, w.within.few_points, w.long, c.requires)
+    omega (arith, count_le (full c.args.k w.each.now) c.loop-p.p, c.loop-p.invariant.1, (g.met.S.Space.within w.space.now).few_points, w.long, c.requires)
 
 pub returns : goal.returns
 returns g c =

@@ -13,7 +13,7 @@ use Rattle.placing.proofs.guess.play_guess.Goals as goal
 
 pub unwrap-requires : goal.unwrap-requires
 unwrap-requires g c =
-    let fine = ready_open _ _ (g.S.Space.meaning c.args.s.now) c.args.k _ c.args.writer.now c.args.sheet.now c.points-n.ensures.within c.requires in
+    let fine = ready_open _ _ (g.S.Space.meaning c.args.s.now) c.args.k _ c.args.writer.now c.args.sheet.now (g.met.S.Space.within c.args.s.now) c.requires in
     let ok = c.open.ensures.answer ∙ fine in
     search rules
 
@@ -32,8 +32,8 @@ add_ledger-requires g c =
     let F = g.F.Finder.promise c.args.f.now in
     let V = g.V.Verifier.promise c.args.v.now in
     let k = c.args.k in
-    let value = c.points-n.ensures.value in
-    let within = c.points-n.ensures.within in
+    let value = c.points-n.ensures in
+    let within = g.met.S.Space.within c.args.s.now in
     let before : Desk = desk c.args.run.now.state c.args.buffers.now in
     let opened : Desk = record { state = c.open.new.self.state; weights = c.open.new.weights; marks = c.args.buffers.now.marks.now; ledger = c.args.buffers.now.ledger.now; scratch = c.args.buffers.now.scratch.now } in
     let after : Desk = desk c.play_rounds-rounds.new.run.state c.play_rounds-rounds.new.buffers in
@@ -60,8 +60,8 @@ returns-then-is_ruled_out g c =
     let k = c.args.k in
     let w = c.args.writer.now in
     let sheet = c.args.sheet.now in
-    let value = c.points-n.ensures.value in
-    let within = c.points-n.ensures.within in
+    let value = c.points-n.ensures in
+    let within = g.met.S.Space.within c.args.s.now in
     let before : Desk = desk c.args.run.now.state c.args.buffers.now in
     let opened : Desk = record { state = c.open.new.self.state; weights = c.open.new.weights; marks = c.args.buffers.now.marks.now; ledger = c.args.buffers.now.ledger.now; scratch = c.args.buffers.now.scratch.now } in
     let after : Desk = desk c.play_rounds-rounds.new.run.state c.play_rounds-rounds.new.buffers in
@@ -95,7 +95,7 @@ returns-else-is_ruled_out g c =
     let k = c.args.k in
     let w = c.args.writer.now in
     let sheet = c.args.sheet.now in
-    let within = c.points-n.ensures.within in
+    let within = g.met.S.Space.within c.args.s.now in
     let before : Desk = desk c.args.run.now.state c.args.buffers.now in
     let opened : Desk = record { state = c.open.new.self.state; weights = c.open.new.weights; marks = c.args.buffers.now.marks.now; ledger = c.args.buffers.now.ledger.now; scratch = c.args.buffers.now.scratch.now } in
     let after : Desk = desk c.play_rounds-rounds.new.run.state c.play_rounds-rounds.new.buffers in

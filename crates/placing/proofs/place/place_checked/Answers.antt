@@ -17,7 +17,7 @@ ranges-some r m is some = omega arith
 pub finish-requires : goal.finish-requires
 finish-requires g c =
     let S = g.S.Space.meaning c.args.s.now in
-    let few = c.ranges-2.ensures.within.few_points in
+    let few = (g.met.S.Space.within c.args.s.now).few_points in
     let st-is : c.begin.new.self.state ≡ begun_state S = (c.begin.ensures.state ∙ ap (λ (r : Result Unit Refusal). accepted r (begun_state (g.S.Space.meaning c.args.s.now)) c.new-run.result.state) c.unwrap.ensures) in
     let none : length (book_lines c.begin.new.self.state.book) ≡ 0 = ap (λ (x : State). length (book_lines x.book)) st-is in
     let len : c.begin-writer.result.len ≡ 0 = ap (λ (x : SheetWriter). x.len) c.begin-writer.ensures.value in
@@ -39,13 +39,13 @@ returns-then-ranges-eq0 g c =
     let ledger = c.args.buffers.now.ledger.now in
     let scratch = c.args.buffers.now.scratch.now in
     let sheet = c.args.sheet.now in
-    let within = c.ranges-2.ensures.within in
+    let within = g.met.S.Space.within c.args.s.now in
     let st = c.begin.new.self.state in
     let w = c.begin-writer.result in
     let st-is : st ≡ begun_state S = (c.begin.ensures.state ∙ ap (λ (r : Result Unit Refusal). accepted r (begun_state (g.S.Space.meaning c.args.s.now)) c.new-run.result.state) c.unwrap.ensures) in
     let none : length (book_lines st.book) ≡ 0 = ap (λ (x : State). length (book_lines x.book)) st-is in
     let len : w.len ≡ 0 = ap (λ (x : SheetWriter). x.len) c.begin-writer.ensures.value in
-    let bare : S.ranges ≡ 0 = sym c.ranges-2.ensures.value ∙ c.if-ranges-eq0.true in
+    let bare : S.ranges ≡ 0 = sym c.ranges-2.ensures ∙ c.if-ranges-eq0.true in
     let room = end_room S.points 0 w.len (length sheet) (book_lines st.book) ms (omega arith) c.requires.marks_long within.few_points (omega arith) c.requires.room in
     let story = begin_story F V S ws ms ledger scratch sheet within c.requires st w st-is c.begin-writer.ensures.value (c.begin-writer.ensures.written sheet) in
     let from : Desk = record { state = blank_state; weights = ws; marks = ms; ledger = ledger; scratch = scratch } in
@@ -70,8 +70,8 @@ play_guesses-rounds-requires g c =
     let S = g.S.Space.meaning c.args.s.now in
     let F = g.F.Finder.promise c.args.f.now in
     let V = g.V.Verifier.promise c.args.v.now in
-    let some : 0 < S.ranges = ranges-some c.ranges-2.result S.ranges c.ranges-2.ensures.value c.if-ranges-eq0.false in
-    begin_ready F V S c.args.buffers.now.weights.now c.args.buffers.now.marks.now c.args.buffers.now.ledger.now c.args.buffers.now.scratch.now c.args.sheet.now c.ranges-2.ensures.within c.requires c.begin.new.self.state c.begin-writer.result
+    let some : 0 < S.ranges = ranges-some c.ranges-2.result S.ranges c.ranges-2.ensures c.if-ranges-eq0.false in
+    begin_ready F V S c.args.buffers.now.weights.now c.args.buffers.now.marks.now c.args.buffers.now.ledger.now c.args.buffers.now.scratch.now c.args.sheet.now (g.met.S.Space.within c.args.s.now) c.requires c.begin.new.self.state c.begin-writer.result
     (c.begin.ensures.state ∙ ap (λ (r : Result Unit Refusal). accepted r (begun_state (g.S.Space.meaning c.args.s.now)) c.new-run.result.state) c.unwrap.ensures) c.begin-writer.ensures.value (c.begin-writer.ensures.written c.args.sheet.now) some
 
 pub finish-requires-2 : goal.finish-requires-2
@@ -84,7 +84,7 @@ finish-requires-2 g c =
     let ledger = c.args.buffers.now.ledger.now in
     let scratch = c.args.buffers.now.scratch.now in
     let sheet = c.args.sheet.now in
-    let within = c.ranges-2.ensures.within in
+    let within = g.met.S.Space.within c.args.s.now in
     let st = c.begin.new.self.state in
     let w = c.begin-writer.result in
     let from : Desk = record { state = blank_state; weights = ws; marks = ms; ledger = ledger; scratch = scratch } in
@@ -112,12 +112,12 @@ returns g c =
     let ledger = c.args.buffers.now.ledger.now in
     let scratch = c.args.buffers.now.scratch.now in
     let sheet = c.args.sheet.now in
-    let within = c.ranges-2.ensures.within in
+    let within = g.met.S.Space.within c.args.s.now in
     let st = c.begin.new.self.state in
     let w = c.begin-writer.result in
     let from : Desk = record { state = blank_state; weights = ws; marks = ms; ledger = ledger; scratch = scratch } in
     let ahead = begin_ahead F V S ws ms ledger scratch sheet within c.requires st w (c.begin.ensures.state ∙ ap (λ (r : Result Unit Refusal). accepted r (begun_state (g.S.Space.meaning c.args.s.now)) c.new-run.result.state) c.unwrap.ensures) c.begin-writer.ensures.value (c.begin-writer.ensures.written sheet) in
-    let some : 0 < S.ranges = ranges-some c.ranges-2.result S.ranges c.ranges-2.ensures.value c.if-ranges-eq0.false in
+    let some : 0 < S.ranges = ranges-some c.ranges-2.result S.ranges c.ranges-2.ensures c.if-ranges-eq0.false in
     let p = c.play_guesses-rounds.ensures in
     let last = c.play_guesses-rounds.new in
     let d : Desk = desk last.run.state last.buffers in

@@ -11,7 +11,7 @@ pub place_checked-requires : goal.place_checked-requires
 place_checked-requires g c =
     let S = g.S.Space.meaning c.args.s.now in
     let F = g.F.Finder.promise c.args.f.now in
-    let needed : c.need-need.result ≡ F.need S.points S.ranges = c.need-need.ensures ∙ (λ i. F.need (c.points.ensures.value i) (c.ranges-2.ensures.value i)) in
+    let needed : c.need-need.result ≡ F.need S.points S.ranges = c.need-need.ensures ∙ (λ i. F.need (c.points.ensures i) (c.ranges-2.ensures i)) in
     let check = (c.in_ok-check_place.ensures.check ∙ (λ i. place_check S (needed i) (c.lengths.ensures.weights i) (c.lengths.ensures.marks i) (c.lengths.ensures.ledger i) (c.lengths.ensures.scratch i) (length c.args.sheet.now))) in
     let long : length c.clean_marks.new.marks ≡ length c.args.buffers.now.marks.now = omega arith in
     checked F S (length c.args.buffers.now.weights.now) (length c.args.buffers.now.marks.now) (length c.args.buffers.now.ledger.now) (length c.args.buffers.now.scratch.now) (length c.args.sheet.now) c.clean_marks.new.marks (sym check) long
@@ -22,7 +22,7 @@ returns g c =
     let S = g.S.Space.meaning c.args.s.now in
     let F = g.F.Finder.promise c.args.f.now in
     let V = g.V.Verifier.promise c.args.v.now in
-    let needed : c.need-need.result ≡ F.need S.points S.ranges = c.need-need.ensures ∙ (λ i. F.need (c.points.ensures.value i) (c.ranges-2.ensures.value i)) in
+    let needed : c.need-need.result ≡ F.need S.points S.ranges = c.need-need.ensures ∙ (λ i. F.need (c.points.ensures i) (c.ranges-2.ensures i)) in
     let before : Buffers = with_sheet c.args.buffers.now c.args.sheet.now in
     let last = c.place_checked.new in
     let after : Buffers = with_sheet last.buffers last.sheet in

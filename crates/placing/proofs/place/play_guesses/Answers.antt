@@ -13,7 +13,7 @@ loop-k-init g c =
     let F = g.F.Finder.promise c.args.f.now in
     let V = g.V.Verifier.promise c.args.v.now in
     let before : Desk = desk c.args.run.now.state c.args.buffers.now in
-    let within = c.points-n.ensures.within in
+    let within = g.met.S.Space.within c.args.s.now in
     let small = ready_small F V S 1 before c.args.writer.now c.args.sheet.now within c.requires in
     let none : c.args.run.now.state.floor ≡ 0 = omega (arith, c.requires.floor) in (
       record {
@@ -35,10 +35,10 @@ loop-k-preserved g c =
     let V = g.V.Verifier.promise c.args.v.now in
     let was : Desk = desk c.loop-k.run.state c.loop-k.buffers in
     let raised : c.loop-k.run.state.floor ≡ c.loop-k.k = eqb-true _ _ (sym c.is_ruled_out.ensures ∙ c.loop-k-test.true) in
-    let value = c.points-n.ensures.value in
+    let value = c.points-n.ensures in
     let k-is : c.next_guess-k.result ≡ following S.points c.loop-k.k = c.next_guess-k.ensures ∙ ap (λ n. following n c.loop-k.k) value in
     let onward = c.loop-k.invariant.0.onward raised in
-    let small = ready_small F V S (following S.points c.loop-k.k) was c.loop-k.writer c.loop-k.sheet c.points-n.ensures.within onward.1 in (
+    let small = ready_small F V S (following S.points c.loop-k.k) was c.loop-k.writer c.loop-k.sheet (g.met.S.Space.within c.args.s.now) onward.1 in (
       c.play_guess.ensures.settled,
       λ from sheet₀ blank ahead. c.play_guess.ensures.plays from sheet₀ c.loop-k.rounds blank
           (subst (λ (x : ℕ). Ahead F V S from sheet₀ x c.loop-k.rounds was c.loop-k.writer c.loop-k.sheet) (sym k-is) ((c.loop-k.invariant.1 from sheet₀ blank ahead).0 raised)),

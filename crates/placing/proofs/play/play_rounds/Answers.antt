@@ -14,7 +14,7 @@ loop-run-smaller g c =
     let was : Desk = desk run.state c.loop-run.buffers in
     let after : Desk = desk c.round.new.self.state c.round.new.buffers in
     let is_open : is_guessing run.state.phase ≡ true = sym c.is_guessing.ensures ∙ c.loop-run-test.true in
-    next_turns (g.F.Finder.promise c.args.f.now) (g.V.Verifier.promise c.args.v.now) (g.S.Space.meaning c.args.s.now) was after (g.met.F.Finder.sound c.args.f.now) (g.met.V.Verifier.sound c.args.v.now) c.points-n.ensures.within
+    next_turns (g.F.Finder.promise c.args.f.now) (g.V.Verifier.promise c.args.v.now) (g.S.Space.meaning c.args.s.now) was after (g.met.F.Finder.sound c.args.f.now) (g.met.V.Verifier.sound c.args.v.now) (g.met.S.Space.within c.args.s.now)
     run.some_guess run.few_guess run.few_points run.unfinished run.grown c.loop-run.invariant.0 is_open (sym c.unwrap.ensures ∙ c.round.ensures.check)
     (subst (λ (r : Result Unit Refusal). RoundDone (g.F.Finder.promise c.args.f.now) (g.V.Verifier.promise c.args.v.now) (g.S.Space.meaning c.args.s.now) r was after) c.unwrap.ensures c.round.ensures.done)
 
@@ -26,7 +26,7 @@ loop-run-preserved g c =
     let S = g.S.Space.meaning c.args.s.now in
     let finder = g.met.F.Finder.sound c.args.f.now in
     let verifier = g.met.V.Verifier.sound c.args.v.now in
-    let within = c.points-n.ensures.within in
+    let within = g.met.S.Space.within c.args.s.now in
     let was : Desk = desk run.state c.loop-run.buffers in
     let after : Desk = desk c.round.new.self.state c.round.new.buffers in
     let is_open : is_guessing run.state.phase ≡ true = sym c.is_guessing.ensures ∙ c.loop-run-test.true in

@@ -20,8 +20,8 @@ returns g c =
       lent = e.lent;
       check = e.check;
       done = (o, e.net.0, e.net.1, is);
-      law = step_law S c.play_round.ensures.within
-          (round_step F (g.V.Verifier.promise c.args.v.now) S before after c.play_round.new.buffers.marks.now o (g.met.F.Finder.sound c.args.f.now) (g.met.V.Verifier.sound c.args.v.now) c.play_round.ensures.within
+      law = step_law S (g.met.S.Space.within c.args.s.now)
+          (round_step F (g.V.Verifier.promise c.args.v.now) S before after c.play_round.new.buffers.marks.now o (g.met.F.Finder.sound c.args.f.now) (g.met.V.Verifier.sound c.args.v.now) (g.met.S.Space.within c.args.s.now)
           run.some_guess run.few_guess run.few_points run.unfinished run.grown (sym e.check) e.net.0 e.net.1 is);
     }
 
@@ -33,4 +33,4 @@ returns-in_err-play_round g c =
     let after : Desk = desk c.play_round.new.self.state c.play_round.new.buffers in
     let is : after ≡ before = (λ i. record { state = e.state i; weights = e.weights i; marks = e.net i; ledger = e.ledger i; scratch = e.scratch i }) in
     let p = err_from_is_err_and c.from_residual.result c.from_residual.ensures.1 in
-    rw (p.1, p.2) (record { lent = e.lent; check = e.check; done = is; law = refused_law (g.S.Space.meaning c.args.s.now) c.play_round.ensures.within before after is })
+    rw (p.1, p.2) (record { lent = e.lent; check = e.check; done = is; law = refused_law (g.S.Space.meaning c.args.s.now) (g.met.S.Space.within c.args.s.now) before after is })

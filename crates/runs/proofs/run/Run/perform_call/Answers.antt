@@ -14,7 +14,6 @@ returns-in-Begin g c =
           (begin_performed (g.S.Space.meaning c.args.s.now) before after c.begin.result c.begin.ensures.answer (λ i. record { state = c.begin.ensures.state i; weights = c.args.buffers.now.weights.now; marks = c.args.buffers.now.marks.now; ledger = c.args.buffers.now.ledger.now; scratch = c.args.buffers.now.scratch.now }));
       clearing = subst (λ (q : Request). Clears (g.S.Space.meaning c.args.s.now) q c.begin.result before after) (ap (request_of g.F.Finder.promise g.V.Verifier.promise) (sym c.in-Begin.is))
           tt;
-      within = c.points-n.ensures.within;
       lent = search rules;
     }
 
@@ -27,7 +26,6 @@ returns-in-Open g c =
           (open_performed (g.S.Space.meaning c.args.s.now) c.in-Open.k before after c.open.result c.open.ensures.answer (λ i. record { state = c.open.ensures.state i; weights = c.open.ensures.weights i; marks = c.args.buffers.now.marks.now; ledger = c.args.buffers.now.ledger.now; scratch = c.args.buffers.now.scratch.now }));
       clearing = subst (λ (q : Request). Clears (g.S.Space.meaning c.args.s.now) q c.open.result before after) (ap (request_of g.F.Finder.promise g.V.Verifier.promise) (sym c.in-Open.is))
           tt;
-      within = c.points-n.ensures.within;
       lent = search rules;
     }
 
@@ -37,10 +35,9 @@ returns-in-Round g c =
     let after : Desk = desk c.round.new.self.state c.round.new.buffers in
     record {
       step = subst (λ (q : Request). Performed (g.S.Space.meaning c.args.s.now) q c.round.result before after) (ap (request_of g.F.Finder.promise g.V.Verifier.promise) (sym c.in-Round.is))
-          (round_performed (g.F.Finder.promise c.in-Round.f.now) (g.V.Verifier.promise c.in-Round.v.now) (g.S.Space.meaning c.args.s.now) before after c.round.result (g.met.F.Finder.sound c.in-Round.f.now) (g.met.V.Verifier.sound c.in-Round.v.now) c.points-n.ensures.within c.args.self.now.some_guess c.args.self.now.few_guess c.args.self.now.few_points c.args.self.now.unfinished c.args.self.now.grown c.round.ensures.check c.round.ensures.done);
+          (round_performed (g.F.Finder.promise c.in-Round.f.now) (g.V.Verifier.promise c.in-Round.v.now) (g.S.Space.meaning c.args.s.now) before after c.round.result (g.met.F.Finder.sound c.in-Round.f.now) (g.met.V.Verifier.sound c.in-Round.v.now) (g.met.S.Space.within c.args.s.now) c.args.self.now.some_guess c.args.self.now.few_guess c.args.self.now.few_points c.args.self.now.unfinished c.args.self.now.grown c.round.ensures.check c.round.ensures.done);
       clearing = subst (λ (q : Request). Clears (g.S.Space.meaning c.args.s.now) q c.round.result before after) (ap (request_of g.F.Finder.promise g.V.Verifier.promise) (sym c.in-Round.is))
           (round_clears (g.F.Finder.promise c.in-Round.f.now) (g.V.Verifier.promise c.in-Round.v.now) (g.S.Space.meaning c.args.s.now) before after c.round.result c.round.ensures.done);
-      within = c.points-n.ensures.within;
       lent = search rules;
     }
 
@@ -53,6 +50,5 @@ returns-in-GiveUp g c =
           (give_up_performed (g.S.Space.meaning c.args.s.now) before after c.give_up.result c.give_up.ensures.answer (λ i. record { state = c.give_up.ensures.state i; weights = c.args.buffers.now.weights.now; marks = c.args.buffers.now.marks.now; ledger = c.args.buffers.now.ledger.now; scratch = c.args.buffers.now.scratch.now }));
       clearing = subst (λ (q : Request). Clears (g.S.Space.meaning c.args.s.now) q c.give_up.result before after) (ap (request_of g.F.Finder.promise g.V.Verifier.promise) (sym c.in-GiveUp.is))
           tt;
-      within = c.points-n.ensures.within;
       lent = search rules;
     }
