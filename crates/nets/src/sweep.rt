@@ -4,6 +4,7 @@ ghost use Rattle.nets.specs.Sweeps.{sweep_finder, sweep_net};
 ghost use Rattle.nets.specs.SweepsLemmas.{sweep_sound};
 
 use crate::finder::{Finder, check_find};
+use ranges::number::RangeNumber;
 use ranges::refusal::Refusal;
 use ranges::space::{OrderedSpace, Space};
 use ranges::weight::{Weights, is_heavy};
@@ -37,6 +38,8 @@ impl<S: OrderedSpace> Finder<S> for Sweep {
         scratch: &mut [u8],
     ) -> Result<u16, Refusal> {
         let weights = check_find(s, k, weights, marks.len(), scratch.len(), NO_SCRATCH)?;
+        // one question before the loop brings the order of all ranges and points
+        let _first = s.first(RangeNumber(0));
         Ok(sweep_marks(k, &weights, marks))
     }
 }

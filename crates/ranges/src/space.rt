@@ -20,18 +20,17 @@ pub trait Space {
     ghost within: { (s : Self) → Within (meaning s) };
 }
 
-// A space whose every range is a stretch of consecutive points.
+// A space whose every range is a stretch of consecutive points; either question promises that of all ranges and points.
 pub trait OrderedSpace: Space {
     ghost first_of: { Self → ℕ → ℕ };
 
     ghost end_of: { Self → ℕ → ℕ };
 
     fn first(&self, j: RangeNumber) -> u16
-        ensures { result ≡ first_of self.now j.0 };
+        ensures value { result ≡ first_of self.now j.0 }
+        ensures order { Ordered (Self.Space.meaning self.now) (first_of self.now) (end_of self.now) };
 
     fn end(&self, j: RangeNumber) -> u16
-        ensures { result ≡ end_of self.now j.0 };
-
-    // Every range is the stretch from its first point up to its end.
-    ghost ordered: { (s : Self) → Ordered (Self.Space.meaning s) (first_of s) (end_of s) };
+        ensures value { result ≡ end_of self.now j.0 }
+        ensures order { Ordered (Self.Space.meaning self.now) (first_of self.now) (end_of self.now) };
 }

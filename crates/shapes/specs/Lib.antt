@@ -1,7 +1,5 @@
-pub mod Boxes
 pub mod Coordinates
-pub mod Fronts
-pub mod Limits
 pub mod Lists
-pub mod Orders
+pub mod Boxes
 pub mod Strips
+pub mod Limits

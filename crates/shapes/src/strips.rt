@@ -1,4 +1,3 @@
-ghost use Rattle.shapes.specs.Orders.{strips_ordered};
 ghost use Rattle.shapes.specs.Strips.{first_point, end_point};
 
 use crate::lists::Lists;
@@ -14,8 +13,6 @@ impl<'a> OrderedSpace for Strips<'a> {
     ghost first_of = { λ s j. first_point s.points.now s.ranges.now j };
 
     ghost end_of = { λ s j. end_point s.points.now s.ranges.now j };
-
-    ghost ordered = { λ s. strips_ordered s.points.now s.ranges.now s.ordered };
 
     fn first(&self, j: RangeNumber) -> u16 {
         match self.ranges.get(j.0 as usize) {

@@ -1,6 +1,6 @@
 use Rattle.std.proofs.Common.{rules}
 use Rattle.std.proofs.lemmas.Fn.{always_returns_same}
-use Rattle.shapes.specs.Orders.{sorted_answer}
+use Rattle.shapes.proofs.Orders.{sorted_answer}
 use Rattle.shapes.proofs.strip_range.StripRangeShape.is_disordered.Goals as goal
 
 pub returns : goal.returns

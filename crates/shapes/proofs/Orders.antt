@@ -19,7 +19,7 @@ use Rattle.shapes.specs.declared.strip_range.StripPoint.{StripPoint}
 use Rattle.shapes.specs.declared.strip_range.StripRange.{StripRange}
 use Rattle.shapes.specs.Lists.{both_held}
 use Rattle.shapes.specs.Strips.{strip_holds, x_at, falls, descends, strip_space, first_point, end_point, no_strip_point}
-use Rattle.shapes.specs.Fronts.{in_front}
+use Rattle.shapes.proofs.Fronts.{in_front}
 
 -- the answer of `is_sorted_by_key`
 keys_le : (x y : ℤ) → partial_le (λ a b. Some (int_cmp a b)) x y ≡ not (lt_z y x)
