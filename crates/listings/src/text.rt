@@ -2,6 +2,7 @@
 ghost use Rattle.std.specs.Prelude.{◌≡◌, ◌+◌, ◌^◌, ◌≤◌, [], ◌∷◌, length, decimal};
 ghost use Rattle.listings.specs.Text.{line_end, Lays};
 
+// The place has no bound of its own: each part asks for the room that its text needs.
 // No `fmt::Write` with `write!` into it: no clause says that a `write!` succeeds, and laying text always does.
 #[derive(Drop)]
 pub(crate) struct Lay<'a> {

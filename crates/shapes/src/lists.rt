@@ -54,6 +54,7 @@ pub fn check_lists<R: Shape>(points: &[R::Point], ranges: &[R]) -> Result<(), Re
     Ok(())
 }
 
+// By hand, since a derive would ask the same of the shape.
 impl<'a, R: Shape> Clone for Lists<'a, R> {
     ghost is_clone = { λ x y. y ≡ x };
 

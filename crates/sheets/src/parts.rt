@@ -51,7 +51,7 @@ pub(crate) fn store_book(sheet: &mut [u8], at: usize, book: &Book)
     }
 }
 
-// How many points are marked: their byte is 1.
+// How many points are marked: their byte is 1. The marks stay a slice with their length as a clause, here and in the writer: a type around it would stand in the same signatures and add its field to each clause.
 #[tactic(auto, using(crate::proofs::Points::counted_marks))]
 pub(crate) fn count_marked(marks: &[u8]) -> usize
     requires { length marks.now ≤ 4096 }
