@@ -1,4 +1,4 @@
-// One call on a run; a round brings its finder and its verifier.
+// One call on a run; a round brings its finder and its verifier. An enum and no closure, since a history names each call by its case.
 #[derive(Clone, Copy)]
 pub enum Call<'a, F, V> {
     Begin,

@@ -22,6 +22,7 @@ const MOST_LINES: usize = 16383;
 const MOST_BYTES: usize = 2147483648;
 
 // The length so far, and the place and guess of the last ledger section.
+// Plain numbers, since the sheet's bytes are the caller's and are lent anew to each call.
 // Only `close` and `tear_up` spend a writer.
 pub struct SheetWriter {
     len: u32,
