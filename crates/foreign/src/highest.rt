@@ -28,7 +28,6 @@ impl<S: Space> Verifier<S> for Highest {
 fn highest_missed<S: Space>(s: &S, marks: &[u8]) -> Option<RangeNumber>
     ensures { range_of result ≡ highest_missed (S.Space.meaning s.now) marks.now }
 {
-    // by number, since a space has no list of its ranges
     for j in (0..s.ranges()).rev() {
         let range = RangeNumber(j);
         if !is_hit(s, &Marked(marks), range) {
