@@ -254,8 +254,8 @@ pub fn show_many(rt: &HostRuntime) -> anyhow::Result<()> {
 }
 
 fn many_strips(heap: Global) -> Result<Vec<StripRange>, AllocError> {
-    let mut strips = vec![in heap; StripRange { a: 0, b: 10 }; 200]?;
-    strips.resize(400, StripRange { a: 10, b: 20 })?;
-    strips.resize(460, StripRange { a: 20, b: 30 })?;
+    let mut strips = vec![in heap; StripRange { a: 0, b: 10 }; 460]?;
+    strips[200..400].fill(StripRange { a: 10, b: 20 });
+    strips[400..].fill(StripRange { a: 20, b: 30 });
     Ok(strips)
 }

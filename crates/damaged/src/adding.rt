@@ -151,12 +151,14 @@ pub fn second_adds(rt: &HostRuntime) -> anyhow::Result<()> {
 
 fn say_second(rt: &HostRuntime, second: &Second) -> anyhow::Result<()> {
     let mut sheet = vec![in rt.alloc(); 9u8; second.room]?;
-    // made before there is a writer, which an early return would forget
-    let mut before = vec![in rt.alloc(); 0u8; second.room]?;
+    // no copy on the heap, which could fail
+    let mut before = [0u8; 64];
     let mut writer = begun(&mut sheet, &[1]);
-    before.copy_from_slice(&sheet);
+    if let Some(front) = before.get_mut(..second.room) {
+        front.copy_from_slice(&sheet);
+    }
     let number = answer_number(&writer.add(&mut sheet, second.k, &LEDGER));
-    let word = word(sheet == before);
+    let word = word(before.starts_with(&sheet));
     let torn = writer.tear_up(&mut sheet);
     println!(rt;
         "second add, {}: {number}, {word}, torn up {torn}",

@@ -116,14 +116,19 @@ fn say_close(rt: &HostRuntime, close: &Close) -> anyhow::Result<()> {
     let mut marks = vec![in rt.alloc(); 0u8; close.marks]?;
     mark(&mut marks);
     let mut sheet = vec![in rt.alloc(); 9u8; close.room]?;
-    // made before there is a writer, which an early return would forget
-    let mut before = vec![in rt.alloc(); 0u8; close.room]?;
+    // no copy on the heap, which could fail
+    let mut before = [0u8; 96];
     let writer = begun(&mut sheet, close.guesses);
-    before.copy_from_slice(&sheet);
+    if let Some(front) = before.get_mut(..close.room) {
+        front.copy_from_slice(&sheet);
+    }
     match writer.close(&mut sheet, &book(), close.floor, &marks) {
-        Ok(len) => println!(rt; "close, {what}: 0, {}, length {len}", word(sheet == before))?,
+        Ok(len) => println!(rt;
+            "close, {what}: 0, {}, length {len}",
+            word(before.starts_with(&sheet))
+        )?,
         Err((back, e)) => {
-            let kept = word(sheet == before);
+            let kept = word(before.starts_with(&sheet));
             let torn = back.tear_up(&mut sheet);
             println!(rt; "close, {what}: {}, {kept}, torn up {torn}", e.number())?;
         }

@@ -9,7 +9,8 @@ use crate::highest::Highest;
 use crate::ring::Ring;
 use crate::touching::Touching;
 use placing::place::place;
-use ranges::number::RangeNumber;
+use ranges::hit::is_marked;
+use ranges::number::{PointNumber, RangeNumber};
 use runs::buffers::Buffers;
 
 fn main(rt: HostRuntime) -> anyhow::Result<()> {
@@ -34,8 +35,8 @@ fn run(rt: &HostRuntime) -> anyhow::Result<()> {
         &mut [0; 608],
     )?;
     println!(rt; "points {points}, floor {floor}, rounds {rounds}, sheet of {len} bytes")?;
-    for (p, mark) in marks.iter().enumerate() {
-        if *mark == 1 {
+    for (p, _) in (0..u16::MAX).map(PointNumber).zip(&marks) {
+        if is_marked(&marks, p) {
             println!(rt; "at {p}")?;
         }
     }

@@ -200,15 +200,20 @@ fn gain_byte(gain: u16) -> u8
     gain.min(UNKNOWN as u16) as u8
 }
 
-// How many ranges with their flag up hold point p.
+// How many ranges with their flag up hold point p. The question is asked inside the fold, as in a range's weight; there are too few ranges for the count to wrap.
 fn count_gain<S: Space>(s: &S, flags: &[u8], p: PointNumber) -> u16
     ensures { result ≡ flag_gain (S.Space.meaning s.now) flags.now p.0 }
 {
     (0..s.ranges())
         .map(RangeNumber)
         .zip(flags)
-        .filter(|(j, flag)| adds_gain(s, **flag, *j, p))
-        .count() as u16
+        .fold(0, |gain: u16, (j, flag)| {
+            if adds_gain(s, *flag, j, p) {
+                gain.wrapping_add(1)
+            } else {
+                gain
+            }
+        })
 }
 
 // Whether range j adds to the gain of point p.

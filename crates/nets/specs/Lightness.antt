@@ -1,4 +1,4 @@
--- The lightest missed range is missed, and what the verifier keeps is the best so far.
+-- The lightest missed range is missed, and where there is none every range is hit.
 use Rattle.std.specs.Prelude.{Some, None}
 use Rattle.std.proofs.Common.{sym}
 use Rattle.std.proofs.lemmas.Bool.{not-false}

@@ -1,4 +1,4 @@
-ghost use Rattle.std.specs.Prelude.{◌≡◌, length};
+ghost use Rattle.std.specs.Prelude.{◌≡◌, length, if◌then◌else◌};
 ghost use Rattle.ranges.specs.Weights.{chosen};
 ghost use Rattle.nets.specs.Sweeps.{sweep_finder, sweep_net};
 ghost use Rattle.nets.specs.SweepsLemmas.{sweep_sound};
@@ -56,11 +56,18 @@ fn sweep_marks<S: Space>(k: u16, weights: &Weights<'_, S>, marks: &mut [u8]) -> 
     for (p, mark) in marks.iter_mut().enumerate() {
         sum += each[p];
         let full = is_heavy(k, sum, weights.total());
-        *mark = u8::from(full);
+        write_mark(mark, full);
         if full {
             count += 1;
             sum = 0;
         }
     }
     count
+}
+
+// Writes 1 for a marked point, 0 for another.
+fn write_mark(mark: &mut u8, chosen: bool)
+    ensures { mark.new ≡ (if chosen then 1 else 0) }
+{
+    *mark = u8::from(chosen);
 }

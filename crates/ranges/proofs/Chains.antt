@@ -1,9 +1,9 @@
 -- What a chain over the numbers below n finds, in the words of the searches.
-use Rattle.std.proofs.Common.{◌≡◌, ℕ, zero, suc, ◌+◌, ◌<◌, Bool, true, false, cond, List, [], ◌∷◌, ◌++◌, map, length, get_or, Some, None, Option, sym, refl, ap, ◌∙◌, subst, add-one, inl, inr, arith}
+use Rattle.std.proofs.Common.{◌≡◌, ℕ, zero, suc, ◌+◌, ◌<◌, Bool, true, false, cond, List, [], ◌∷◌, ◌++◌, map, length, get_or, Some, None, Option, sym, refl, ap, ◌∙◌, subst, add-zero, add-one, inl, inr, arith}
 use Rattle.std.specs.List.{filter, sum_by}
 use Rattle.std.proofs.lemmas.Bool.{cases_Bool}
 use Rattle.std.proofs.lemmas.List.Sums.{sum_by-append, sum_by-cons, sum_by_push}
-use Rattle.std.proofs.lemmas.List.FromFn.{filter_of_map_range_with_len_more}
+use Rattle.std.proofs.lemmas.List.FromFn.{filter_of_map_range_with_len_more, sum_by-map-range_with_len_more}
 use Rattle.std.specs.List.{zip}
 use Rattle.ranges.specs.Below.{sum_below, count_below}
 use Rattle.std.specs.Fn.{Called}
@@ -51,29 +51,26 @@ module _ {X : Type 0} (mk : ℕ → X) (t : X → Bool) (n : ℕ) where
       let none = least_not (λ k. t (mk k)) i (λ k m. sym (ap t (get_or-map-range_with_len mk 0 n k k (mk k) (omega arith) (omega arith))) ∙ before k (mk k) (omega arith) m) in
       least_here (λ k. t (mk k)) i n below none passes ∙ ap Some (sym (back i) ∙ ap of is)
 
-  -- the sum over those that pass
-  pub sum_in_numbers : (f : X → ℕ) → sum_by f (filter t (numbers mk n)) ≡ sum_below (λ k. cond (t (mk k)) (f (mk k)) 0) n
-  sum_in_numbers f = up n
-    where
-      here : (k : ℕ) → sum_by f (cond (t (mk k)) (mk k ∷ []) []) ≡ cond (t (mk k)) (f (mk k)) 0
-      here k = elim (cases_Bool (t (mk k))) [ inl e ↦ rw e (omega arith) | inr e ↦ rw e refl ]
+-- the sum over all of them
+pub sum_of_numbers : {X : Type 0} (mk : ℕ → X) (f : X → ℕ) (n : ℕ) → sum_by f (numbers mk n) ≡ sum_below (λ k. f (mk k)) n
+sum_of_numbers mk f zero = refl
+sum_of_numbers mk f (suc n) =
+    subst (λ (s : ℕ). sum_by f (numbers mk s) ≡ sum_by f (numbers mk n) + f (mk n)) (add-one n) (sum_by-map-range_with_len_more f mk 0 n n (omega arith))
+    ∙ omega (arith, sum_of_numbers mk f n, sum_suc (λ k. f (mk k)) n)
 
-      up : (m : ℕ) → sum_by f (filter t (numbers mk m)) ≡ sum_below (λ k. cond (t (mk k)) (f (mk k)) 0) m
-      up zero = refl
-      up (suc m) =
-          ap (λ ys. sum_by f ys) (numbers_more mk t m)
-          ∙ sum_by-append f (filter t (numbers mk m)) (cond (t (mk m)) (mk m ∷ []) [])
-          ∙ omega (arith, up m, here m, sum_suc (λ k. cond (t (mk k)) (f (mk k)) 0) m)
-
--- a fold that adds f of each item and stays at the largest number
-pub capped_fold : {S A X F : Type 0} {steps : S → Option A → S → Type 0} {v : A → X} {s : S} {all : List X} (g : Mut F (ℕ × (A × Unit {0})) ℕ) (q : F) (f : X → ℕ) (r : ℕ) → (xs : List A) × (f' : F) × Drains steps s xs × FoldsTo {P = F × ℕ} (λ p x u. Called g p.0 (p.1, (x, tt)) u.1 u.0) (q, 0) xs (f', r) → YieldsList steps v s all → ((a b : ℕ) (x : A) (u : F) → Called g q (a, (x, tt)) b u → (b ≡ capped (a + f (v x))) × (u ≡ q)) → r ≡ capped (sum_by f all)
-capped_fold {steps} {v} {s} g q f r ran road step =
-    fold_over steps v g (λ ys a. a ≡ capped (sum_by f ys)) q
+-- a fold that adds f of each item, where what a sum keeps of a number keeps the sums with it
+pub kept_fold : {S A X F : Type 0} {steps : S → Option A → S → Type 0} {v : A → X} {s : S} {all : List X} (kept : ℕ → ℕ) (none : 0 ≡ kept 0) (sums : (n m : ℕ) → kept (kept n + m) ≡ kept (n + m)) (g : Mut F (ℕ × (A × Unit {0})) ℕ) (q : F) (f : X → ℕ) (r : ℕ) → (xs : List A) × (f' : F) × Drains steps s xs × FoldsTo {P = F × ℕ} (λ p x u. Called g p.0 (p.1, (x, tt)) u.1 u.0) (q, 0) xs (f', r) → YieldsList steps v s all → ((a b : ℕ) (x : A) (u : F) → a ≡ kept (a + 0) → Called g q (a, (x, tt)) b u → (b ≡ kept (a + f (v x))) × (u ≡ q)) → r ≡ kept (sum_by f all)
+kept_fold {steps} {v} {s} kept none sums g q f r ran road step =
+    fold_over steps v g (λ ys a. a ≡ kept (sum_by f ys)) q
     (λ ys a x b u before k. (
-    let more = sum_by_push f ys (v x) in
-    let one = step a b x u k in
-    (omega (arith, more, before, one.0), one.1)))
-    s _ 0 r road.runs refl ran
+    let so_far : a ≡ kept (a + 0) = before ∙ ap kept (sym (add-zero (sum_by f ys))) ∙ sym (sums (sum_by f ys) 0) ∙ ap (λ n. kept (n + 0)) (sym before) in
+    let one = step a b x u so_far k in
+    (one.0 ∙ ap (λ n. kept (n + f (v x))) before ∙ sums (sum_by f ys) (f (v x)) ∙ ap kept (sym (sum_by_push f ys (v x))), one.1)))
+    s _ 0 r road.runs none ran
+
+-- a sum that stays at the largest number
+pub capped_sums : (n m : ℕ) → capped (capped n + m) ≡ capped (n + m)
+capped_sums n m = omega arith
 
 -- the sum over a list, by its places
 pub sum_by_places : (ws : List ℕ) → sum_by (λ w. w) ws ≡ sum_below (λ i. get_or ws i 0) (length ws)
@@ -87,20 +84,16 @@ pub range_found : (r : Option RangeNumber) (o : Option ℕ) → MatchOption r (o
 range_found None o e = sym e
 range_found (Some j) o e = sym e
 
--- how many of the numbers below n pass with the byte that a list has for them, where no number passes with 0
+-- the sum of 1 for each of the numbers below n that passes with the byte that a list has for it, where no number passes with 0
 module _ {X : Type 0} (mk : ℕ → X) (t : X → ℕ → Bool) (none : (x : X) → t x 0 ≡ false) where
-  zipped : (a n : ℕ) (bs : List ℕ) → length (filter (λ q. t q.0 q.1) (zip (map mk (range_with_len a n)) bs)) ≡ count_below (λ i. t (mk (a + i)) (get_or bs i 0)) n
+  zipped : (a n : ℕ) (bs : List ℕ) → sum_by (λ q. cond (t q.0 q.1) 1 0) (zip (map mk (range_with_len a n)) bs) ≡ count_below (λ i. t (mk (a + i)) (get_or bs i 0)) n
   zipped a zero bs = refl
   zipped a (suc n) [] = sym (sum_zero (λ i. cond (t (mk (a + i)) 0) 1 0) (suc n) (λ i l. ap (λ b. cond b 1 0) (none (mk (a + i)))))
   zipped a (suc n) (b ∷ bs) =
       let front : count_below (λ i. t (mk (a + i)) (get_or (b ∷ bs) i 0)) (suc n) ≡ cond (t (mk (a + 0)) b) 1 0 + sum_below (λ i. cond (t (mk (a + suc i)) (get_or bs i 0)) 1 0) n = sum_front (λ i. cond (t (mk (a + i)) (get_or (b ∷ bs) i 0)) 1 0) n in
       let same = sum_same (λ i. cond (t (mk (a + 1 + i)) (get_or bs i 0)) 1 0) (λ i. cond (t (mk (a + suc i)) (get_or bs i 0)) 1 0) n (λ i l. ap (λ k. cond (t (mk k) (get_or bs i 0)) 1 0) (omega arith)) in
       let first : ◌≡◌ {A = ℕ} (cond (t (mk (a + 0)) b) 1 0) (cond (t (mk a) b) 1 0) = ap (λ k. cond (t (mk k) b) 1 0) (omega arith) in
-      one (t (mk a) b) ∙ omega (arith, zipped (a + 1) n bs, front, same, first)
-    where
-      one : (c : Bool) → length (cond c ((mk a, b) ∷ filter (λ q. t q.0 q.1) (zip (map mk (range_with_len (a + 1) n)) bs)) (filter (λ q. t q.0 q.1) (zip (map mk (range_with_len (a + 1) n)) bs))) ≡ cond c 1 0 + length (filter (λ q. t q.0 q.1) (zip (map mk (range_with_len (a + 1) n)) bs))
-      one true = omega arith
-      one false = omega arith
+      sum_by-cons (λ q. cond (t q.0 q.1) 1 0) (mk a, b) (zip (map mk (range_with_len (a + 1) n)) bs) ∙ omega (arith, zipped (a + 1) n bs, front, same, first)
 
-  pub count_zipped : (n : ℕ) (bs : List ℕ) → length (filter (λ q. t q.0 q.1) (zip (numbers mk n) bs)) ≡ count_below (λ i. t (mk i) (get_or bs i 0)) n
-  count_zipped n bs = zipped 0 n bs ∙ sum_same _ _ n (λ i l. ap (λ k. cond (t (mk k) (get_or bs i 0)) 1 0) (omega arith))
+  pub sum_zipped : (n : ℕ) (bs : List ℕ) → sum_by (λ q. cond (t q.0 q.1) 1 0) (zip (numbers mk n) bs) ≡ count_below (λ i. t (mk i) (get_or bs i 0)) n
+  sum_zipped n bs = zipped 0 n bs ∙ sum_same _ _ n (λ i l. ap (λ k. cond (t (mk k) (get_or bs i 0)) 1 0) (omega arith))

@@ -24,13 +24,17 @@ pub fn total_weight(weights: &[u64]) -> u64
 }
 
 // The total over the points of range j; a sum past 64 bits stays at the largest number.
+// The question is asked inside the fold, since a filter before it takes a third more steps a point.
 pub fn range_weight<S: Space>(s: &S, weights: &[u64], j: RangeNumber) -> u64
     ensures { result ≡ capped (range_weight (S.Space.meaning s.now) weights.now j.0) }
 {
-    (0..s.points())
-        .map(PointNumber)
-        .filter(|p| s.holds(j, *p))
-        .fold(0, |sum: u64, p| sum.saturating_add(weight_at(weights, p)))
+    (0..s.points()).map(PointNumber).fold(0, |sum: u64, p| {
+        if s.holds(j, p) {
+            sum.saturating_add(weight_at(weights, p))
+        } else {
+            sum
+        }
+    })
 }
 
 // Whether a range of this weight is heavy for guess k.

@@ -43,11 +43,3 @@ pub all_alike : (t u : ℕ → Bool) (n : ℕ) → ((i : ℕ) → i < n → t i 
 all_alike t u zero h = refl
 all_alike t u (suc n) h =
     ap (λ b. b && all_below t n) (h n (omega arith)) ∙ ap (λ b. u n && b) (all_alike t u n (λ i l. h i (omega arith)))
-
-both_swap : (a b c d : Bool) → ((a && b) && (c && d)) ≡ ((a && c) && (b && d))
-both_swap true b c d = and_swap b c d
-both_swap false b c d = refl
-
-pub all_both : (t u : ℕ → Bool) (n : ℕ) → (all_below t n && all_below u n) ≡ all_below (λ i. t i && u i) n
-all_both t u zero = refl
-all_both t u (suc n) = both_swap (t n) (all_below t n) (u n) (all_below u n) ∙ ap (λ b. (t n && u n) && b) (all_both t u n)

@@ -2,14 +2,14 @@
 use Rattle.std.proofs.Common.{◌≡◌, ℕ, zero, suc, ◌+◌, ◌*◌, ◌/◌, ◌<◌, ◌-◌, Bool, true, false, cond, Ok, Err, ◌&&◌, ◌||◌, eqb, ltb, leb, List, [], length, get_or, take, drop, sym, refl, ap, ◌∙◌, mul-suc, arith}
 use Rattle.std.specs.Simd.{first_chunks}
 use Rattle.std.specs.List.{list_all, AllAdjacentBelow, IsAllAdjacentAnswer}
-use Rattle.std.proofs.lemmas.Bool.{or_right, ne_eqb}
+use Rattle.std.proofs.lemmas.Bool.{or_right, ne_eqb, and_from, and_left}
 use Rattle.std.proofs.lemmas.List.{get_or-take, get_or-drop, drop-drop}
 use Rattle.ranges.specs.declared.refusal.Refusal.TheVariants.{BadSheet}
 use Rattle.guesses.specs.declared.book.GuessLine.{GuessLine}
 use Rattle.sheets.specs.Bytes.{get16}
-use Rattle.sheets.specs.Lines.{all_below, verdict_stands, verdicts_stand, verdict_of, line_in, ascends_at}
+use Rattle.sheets.specs.Lines.{all_below, verdict_stands, verdicts_stand, verdict_of, line_in, rises_at, stands_at}
 use Rattle.sheets.specs.Reading.{points_rise}
-use Rattle.sheets.proofs.All.{all_gives, all_from, all_not, all_items, all_alike, all_both}
+use Rattle.sheets.proofs.All.{all_gives, all_from, all_not, all_items, all_alike}
 
 pub length_chunks : {X : Type 0} (n k : ℕ) (xs : List X) → length (first_chunks n k xs) ≡ k
 length_chunks n zero xs = refl
@@ -62,29 +62,35 @@ number_at b i h =
     ∙ front16 2 (2 * i) 0 b (omega arith)
     ∙ ap (get16 b) (omega arith)
 
-pub all_rise : (b : List ℕ) (n : ℕ) → (list_all (λ p. ltb (get16 p 0) n) (first_chunks 2 (length b / 2) b) && all_below (ascends_at (first_chunks 2 (length b / 2) b)) (length (first_chunks 2 (length b / 2) b))) ≡ points_rise b n
+pub all_rise : (b : List ℕ) (n : ℕ) → all_below (stands_at (first_chunks 2 (length b / 2) b) n) (length (first_chunks 2 (length b / 2) b)) ≡ points_rise b n
 all_rise b n =
     let k = length b / 2 in
     let cs = first_chunks 2 k b in
-    let low : ℕ → Bool = λ i. ltb (get16 b (2 * i)) n in
-    let up : ℕ → Bool = λ i. eqb i 0 || ltb (get16 b (2 * (i - 1))) (get16 b (2 * i)) in
-    let below = all_items (λ p. ltb (get16 p 0) n) cs [] low (λ i l. ap (λ x. ltb x n) (number_at b i (omega (arith, length_chunks 2 k b)))) in
-    let rise : all_below (ascends_at cs) k ≡ all_below up k =
-    all_alike _ _ k (λ i l. ap (λ x. eqb i 0 || ltb x (get16 (get_or cs i []) 0)) (number_at b (i - 1) (omega arith)) ∙ ap (λ x. eqb i 0 || ltb (get16 b (2 * (i - 1))) x) (number_at b i l)) in
-    ap (λ x. x && all_below (ascends_at cs) (length cs)) below
-    ∙ ap (λ m. all_below low m && all_below (ascends_at cs) m) (length_chunks 2 k b)
-    ∙ ap (λ x. all_below low k && x) rise
-    ∙ all_both low up k
+    ap (all_below (stands_at cs n)) (length_chunks 2 k b)
+    ∙ all_alike _ _ k (λ i l.
+    ap (λ x. ltb x n && (eqb i 0 || ltb (get16 (get_or cs (i - 1) []) 0) x)) (number_at b i l)
+    ∙ ap (λ x. ltb (get16 b (2 * i)) n && (eqb i 0 || ltb x (get16 b (2 * i)))) (number_at b (i - 1) (omega arith)))
 
-ascends_from : (ps : List (List ℕ)) → AllAdjacentBelow (λ x y. true ≡ ltb (get16 x 0) (get16 y 0)) ps (length ps) → (i : ℕ) → i < length ps → ascends_at ps i ≡ true
-ascends_from ps h zero l = refl
-ascends_from ps h (suc i) l =
+rises_from : (ps : List (List ℕ)) (n : ℕ) → AllAdjacentBelow (λ x y. true ≡ (ltb (get16 y 0) n && ltb (get16 x 0) (get16 y 0))) ps (length ps) → (i : ℕ) → i < length ps → rises_at ps n i ≡ true
+rises_from ps n h zero l = refl
+rises_from ps n h (suc i) l =
     let before : suc i - 1 ≡ i = omega arith in
     let next : suc i ≡ i + 1 = omega arith in
     or_right (eqb (suc i) 0) _ (rw before (rw next (sym (h i [] (omega arith)))))
 
-pub ascends_sorted : (ps : List (List ℕ)) (r : Bool) → IsAllAdjacentAnswer (λ x y b. b ≡ ltb (get16 x 0) (get16 y 0)) ps r → r ≡ all_below (ascends_at ps) (length ps)
-ascends_sorted ps true h = sym (all_from (ascends_at ps) (length ps) (ascends_from ps h))
-ascends_sorted ps false (k, l, e) =
+pub rises_sorted : (ps : List (List ℕ)) (n : ℕ) (r : Bool) → IsAllAdjacentAnswer (λ x y b. b ≡ (ltb (get16 y 0) n && ltb (get16 x 0) (get16 y 0))) ps r → r ≡ all_below (rises_at ps n) (length ps)
+rises_sorted ps n true h = sym (all_from (rises_at ps n) (length ps) (rises_from ps n h))
+rises_sorted ps n false (k, l, e) =
     let before : k + 1 - 1 ≡ k = omega arith in
-    sym (all_not (ascends_at ps) (length ps) (k + 1) l (ap (λ b. b || ltb (get16 (get_or ps (k + 1 - 1) []) 0) (get16 (get_or ps (k + 1) []) 0)) (ne_eqb (k + 1) 0 (λ z. omega arith)) ∙ rw before (sym (e []))))
+    sym (all_not (rises_at ps n) (length ps) (k + 1) l (ap (λ b. b || (ltb (get16 (get_or ps (k + 1) []) 0) n && ltb (get16 (get_or ps (k + 1 - 1) []) 0) (get16 (get_or ps (k + 1) []) 0))) (ne_eqb (k + 1) 0 (λ z. omega arith)) ∙ rw before (sym (e []))))
+
+-- the first lies below n, and the others rise
+pub first_rises : (ps : List (List ℕ)) (n : ℕ) → ltb (get16 (get_or ps 0 []) 0) n ≡ true → all_below (rises_at ps n) (length ps) ≡ all_below (stands_at ps n) (length ps)
+first_rises ps n first = all_alike (rises_at ps n) (stands_at ps n) (length ps) each
+  where
+    each : (i : ℕ) → i < length ps → rises_at ps n i ≡ stands_at ps n i
+    each zero l = sym (and_from _ _ first refl)
+    each (suc i) l = let e = ne_eqb (suc i) 0 (λ z. omega arith) in rw e refl
+
+pub first_fails : (ps : List (List ℕ)) (n : ℕ) → 0 < length ps → ltb (get16 (get_or ps 0 []) 0) n ≡ false → all_below (stands_at ps n) (length ps) ≡ false
+first_fails ps n some first = all_not (stands_at ps n) (length ps) 0 some (and_left _ _ first)

@@ -44,3 +44,13 @@ if_below i n x = cond (nat_lt i n) (Some x) None
 -- the number i of these, in two bytes each, is the first or lies above the one before it
 abbrev pub ascends_at : List (List ℕ) → ℕ → Bool
 ascends_at ps i = i == 0 || nat_lt (get16 (slice_index_or ps (i - 1) []) 0) (get16 (slice_index_or ps i []) 0)
+
+-- it lies below n too
+abbrev pub stands_at : List (List ℕ) → ℕ → ℕ → Bool
+stands_at ps n i = nat_lt (get16 (slice_index_or ps i []) 0) n && ascends_at ps i
+
+-- it is the first, or lies below n and above the one before it
+abbrev pub rises_at : List (List ℕ) → ℕ → ℕ → Bool
+rises_at ps n i =
+    i == 0
+    || (nat_lt (get16 (slice_index_or ps i []) 0) n && nat_lt (get16 (slice_index_or ps (i - 1) []) 0) (get16 (slice_index_or ps i []) 0))

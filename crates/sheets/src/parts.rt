@@ -10,11 +10,11 @@ use guesses::book::Book;
 use ranges::number::RangeNumber;
 
 // A function, since only of a parameter it is known that its number has two bytes.
-fn range_bytes(line: RangeNumber) -> [u8; 2]
-    ensures bytes { result ≡ bytes16 line.0 }
-    ensures fit { Fit line.0 }
+fn number_bytes(x: u16) -> [u8; 2]
+    ensures bytes { result ≡ bytes16 x }
+    ensures fit { Fit x }
 {
-    line.0.to_le_bytes()
+    x.to_le_bytes()
 }
 
 fn store_lines(sheet: &mut [u8], at: usize, lines: &[RangeNumber])
@@ -24,7 +24,7 @@ fn store_lines(sheet: &mut [u8], at: usize, lines: &[RangeNumber])
 {
     // by place, since what is written through a zip with `chunks_exact_mut` stays unknown to a proof
     for (i, line) in lines.iter().enumerate() {
-        store(sheet, at + 2 * i, &range_bytes(*line));
+        store(sheet, at + 2 * i, &number_bytes(line.0));
     }
 }
 
@@ -70,7 +70,7 @@ pub(crate) fn store_points(sheet: &mut [u8], at: usize, marks: &[u8])
     let mut next = at;
     for (p, mark) in marks.iter().enumerate() {
         if *mark == 1 {
-            store(sheet, next, &(p as u16).to_le_bytes());
+            store(sheet, next, &number_bytes(p as u16));
             next += 2;
         }
     }

@@ -2,7 +2,7 @@
 ghost use Rattle.std.specs.Prelude.{◌≡◌, ◌+◌, ◌*◌, ◌/◌, ◌<◌, ◌≤◌, true, false, length, MatchOption, nat_lt, ◌&&◌};
 ghost use Rattle.std.specs.List.{list_all};
 ghost use Rattle.sheets.specs.Bytes.{get16};
-ghost use Rattle.sheets.specs.Lines.{all_below, verdict_stands, verdicts_stand, ascends_at};
+ghost use Rattle.sheets.specs.Lines.{all_below, verdict_stands, verdicts_stand, rises_at, stands_at};
 ghost use Rattle.sheets.specs.Reading.{part, book_stands, points_stand, ledger_stands, ledgers_stand, lines_place, accepted, content, held, read_sheet, contents};
 
 use crate::bytes::read;
@@ -31,23 +31,35 @@ fn book_stands(book: &[u8]) -> bool
     rest.is_empty() && lines.len() <= 24 && have_verdicts(lines)
 }
 
-fn are_below(points: &[[u8; 2]], n: u16) -> bool
-    ensures { result ≡ list_all (λ p. nat_lt (get16 p 0) n) points.now }
+// Whether a point lies below n.
+fn is_below(p: &[u8; 2], n: u16) -> bool
+    ensures { result ≡ nat_lt (get16 p.now 0) n }
 {
-    points.iter().all(|p| u16::from_le_bytes(*p) < n)
+    u16::from_le_bytes(*p) < n
 }
 
-// Whether each point lies above the one before it.
-fn points_ascend(points: &[[u8; 2]]) -> bool
-    ensures { result ≡ all_below (ascends_at points.now) (length points.now) }
+// Whether a point lies below n and above the one before it.
+fn rises(before: &[u8; 2], p: &[u8; 2], n: u16) -> bool
+    ensures { result ≡ (nat_lt (get16 p.now 0) n && nat_lt (get16 before.now 0) (get16 p.now 0)) }
 {
-    points.is_sorted_by(|p, q| u16::from_le_bytes(*p) < u16::from_le_bytes(*q))
+    is_below(p, n) && u16::from_le_bytes(*before) < u16::from_le_bytes(*p)
 }
 
+// Whether each point but the first lies below n and above the one before it.
+fn others_rise(points: &[[u8; 2]], n: u16) -> bool
+    ensures { result ≡ all_below (rises_at points.now n) (length points.now) }
+{
+    points.is_sorted_by(|before, p| rises(before, p, n))
+}
+
+// One pass, which ends at the first point that does not stand: what is refused may be long.
 fn points_rise(points: &[[u8; 2]], n: u16) -> bool
-    ensures { result ≡ (list_all (λ p. nat_lt (get16 p 0) n) points.now && all_below (ascends_at points.now) (length points.now)) }
+    ensures { result ≡ all_below (stands_at points.now n) (length points.now) }
 {
-    are_below(points, n) && points_ascend(points)
+    match points.first() {
+        Some(p) => is_below(p, n) && others_rise(points, n),
+        None => true,
+    }
 }
 
 #[tactic(auto, using(crate::proofs::Chunks::all_rise))]

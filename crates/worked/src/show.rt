@@ -1,5 +1,7 @@
 // How the program prints lines of a book and marks.
 use guesses::book::{GuessLine, Verdict};
+use ranges::hit::is_marked;
+use ranges::number::PointNumber;
 
 pub fn show_line(rt: &HostRuntime, i: usize, line: GuessLine) -> anyhow::Result<()> {
     let GuessLine {
@@ -16,8 +18,8 @@ pub fn show_line(rt: &HostRuntime, i: usize, line: GuessLine) -> anyhow::Result<
 }
 
 pub fn show_marks(rt: &HostRuntime, marks: &[u8]) -> anyhow::Result<()> {
-    for (p, mark) in marks.iter().enumerate() {
-        if *mark == 1 {
+    for (p, _) in (0..u16::MAX).map(PointNumber).zip(marks) {
+        if is_marked(marks, p) {
             println!(rt; "at {p}")?;
         }
     }

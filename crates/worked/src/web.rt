@@ -76,8 +76,8 @@ fn replay_ledger(
 // Floor and book, as the run tells them.
 pub fn show_book(rt: &HostRuntime, run: &Run) -> anyhow::Result<()> {
     println!(rt; "floor {}", run.floor())?;
-    for (i, line) in run.book().lines().iter().enumerate() {
-        show_line(rt, i, *line)?;
+    for (i, line) in (0..24).filter_map(|i| run.line(i)).enumerate() {
+        show_line(rt, i, line)?;
     }
     Ok(())
 }

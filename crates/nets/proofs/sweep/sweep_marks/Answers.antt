@@ -4,7 +4,7 @@ use Rattle.std.proofs.lemmas.List.Edits.{fill_by_more}
 use Rattle.ranges.specs.Below.{count_below}
 use Rattle.ranges.specs.Weights.{chosen}
 use Rattle.ranges.proofs.Sums.{count_le, count_here, count_past}
-use Rattle.ranges.proofs.Marks.{marks_chosen, byte_bit}
+use Rattle.ranges.proofs.Marks.{marks_chosen}
 use Rattle.nets.specs.Sweeps.{carried, full, sweep_net}
 use Rattle.nets.specs.SweepsLemmas.{sum_fits, turn_marked, turn_passed}
 use Rattle.nets.proofs.sweep.sweep_marks.Goals as goal
@@ -47,5 +47,5 @@ loop-p-preserved g c =
     ] in (
       turn.0,
       turn.1,
-      λ p b. ap (λ x. get_or (set c.loop-p.marks i x) p 0) (c.from.ensures ∙ byte_bit c.is_heavy-full.result ∙ ap (λ b. cond b 1 0) turn.2) ∙ fill_by_more (λ q. cond (full k ws q) 1 0) c.loop-p.marks i 0 l c.loop-p.invariant.2 p b,
+      λ p b. ap (λ x. get_or (set c.loop-p.marks i x) p 0) (c.write_mark.ensures ∙ ap (λ b. cond b 1 0) turn.2) ∙ fill_by_more (λ q. cond (full k ws q) 1 0) c.loop-p.marks i 0 l c.loop-p.invariant.2 p b,
     )

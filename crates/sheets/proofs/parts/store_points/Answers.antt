@@ -24,7 +24,7 @@ loop-p-preserved c =
           let here = chosen_here ms p w.if-mark-eq1.true in
           let laid : w.store.new.sheet ≡ stored s c.args.at (numbers_bytes (before ++ p ∷ [])) =
           w.store.ensures
-          ∙ ap (stored c.loop-p.sheet c.loop-p.next) w.to_le_bytes.ensures
+          ∙ ap (stored c.loop-p.sheet c.loop-p.next) w.number_bytes.ensures.bytes
           ∙ ap (λ z. stored z c.loop-p.next (bytes16 p)) c.loop-p.invariant.0
           ∙ ap (λ n. stored (stored s c.args.at (numbers_bytes before)) n (bytes16 p)) c.loop-p.invariant.1
           ∙ sym (numbers_more before (p ∷ []) s c.args.at) in
